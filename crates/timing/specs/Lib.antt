@@ -1,0 +1,5 @@
+pub mod Limits
+pub mod Reading
+pub mod Lease
+pub mod Settings
+pub mod Phase
