@@ -8,7 +8,7 @@ use Prim.Native.Nat.{ℕ, zero, suc, _<_, _≤_}
 use native.Mathlib.Omega.{arith}
 use lib.Dec.{eqb, leb, eqb·suc-zero}
 use borrow.Author.Tests.{leb-true, le-leb, eqb-true}
-use Rattle.modes.specs.Modes.{asMode, isMode, among, goes, over, isLeast, firstOf, everyMode, goesWith, covers, join, writes}
+use Rattle.modes.specs.Modes.{asMode, isMode, among, goes, over, isLeast, firstOf, zeroToX, goesWith, covers, join, writes}
 use Rattle.modes.proofs.Range.{every, every2, every3, at, at2, at3, same, implied}
 
 as-mode-below : (b : Bool) (n : ℕ) → leb n 6 ≡ b → cond b n 0 < 7
@@ -38,6 +38,14 @@ mode-number (suc n) = by-test (leb (suc n) 6) refl
     by-test true e = simp (e, le-leb 1 (suc n) (omega arith), eqb·suc-zero)
     by-test false e = simp (e, le-leb 1 (suc n) (omega arith))
 
+-- what is none of the six counts as no lock
+pub none-else : (n : ℕ) → (n ≡ 1 → ⊥) → (n ≡ 2 → ⊥) → (n ≡ 3 → ⊥) → (n ≡ 4 → ⊥) → (n ≡ 5 → ⊥) → (n ≡ 6 → ⊥) → 0 ≡ asMode n
+none-else n h1 h2 h3 h4 h5 h6 = by-test (leb n 6) refl
+  where
+    by-test : (t : Bool) → leb n 6 ≡ t → 0 ≡ asMode n
+    by-test true e = let z : 0 ≡ n = omega (arith, leb-true n 6 e) in rw (← z)
+    by-test false e = simp e
+
 -- "the same both ways"
 pub symmetric : (a b : ℕ) → goesWith a b ≡ goesWith b a
 unfolding goesWith
@@ -46,11 +54,11 @@ symmetric a b = same (goesWith a b) (goesWith b a) (all2 (λ (a b : ℕ). Bool·
 -- "Joining with 0 changes nothing."
 pub join-none : (a : ℕ) → join a 0 ≡ asMode a
 unfolding join
-join-none a = eqb-true _ _ (all1 (λ (a : ℕ). eqb (firstOf (isLeast a 0) everyMode) a) refl a)
+join-none a = eqb-true _ _ (all1 (λ (a : ℕ). eqb (firstOf (isLeast a 0) zeroToX) a) refl a)
 
 pub none-join : (a : ℕ) → join 0 a ≡ asMode a
 unfolding join
-none-join a = eqb-true _ _ (all1 (λ (a : ℕ). eqb (firstOf (isLeast 0 a) everyMode) a) refl a)
+none-join a = eqb-true _ _ (all1 (λ (a : ℕ). eqb (firstOf (isLeast 0 a) zeroToX) a) refl a)
 
 -- no lock is in nobody's way, and anything covers it
 pub none-goes : (b : ℕ) → goesWith 0 b ≡ true
@@ -74,31 +82,31 @@ covers-trans a b c p q =
 -- the join covers both, and whatever covers both covers it
 pub join-left : (a b : ℕ) → covers (join a b) a ≡ true
 unfolding covers join
-join-left a b = all2 (λ (a b : ℕ). over (asMode (firstOf (isLeast a b) everyMode)) a) refl a b
+join-left a b = all2 (λ (a b : ℕ). over (asMode (firstOf (isLeast a b) zeroToX)) a) refl a b
 
 pub join-right : (a b : ℕ) → covers (join a b) b ≡ true
 unfolding covers join
-join-right a b = all2 (λ (a b : ℕ). over (asMode (firstOf (isLeast a b) everyMode)) b) refl a b
+join-right a b = all2 (λ (a b : ℕ). over (asMode (firstOf (isLeast a b) zeroToX)) b) refl a b
 
 pub join-least : (a b m : ℕ) → covers m a ≡ true → covers m b ≡ true → covers m (join a b) ≡ true
 unfolding covers join
 join-least a b m p q =
     implied _ _
     (implied _ _
-    (all3 (λ (a b m : ℕ). not (over m a) || (not (over m b) || over m (asMode (firstOf (isLeast a b) everyMode)))) refl a b m) p)
+    (all3 (λ (a b m : ℕ). not (over m a) || (not (over m b) || over m (asMode (firstOf (isLeast a b) zeroToX)))) refl a b m) p)
     q
 
 -- the join is a mode where the second is one, and never above X
 pub join-small : (a b : ℕ) → join a b ≤ 6
 unfolding join
-join-small a b = leb-true _ _ (all2 (λ (a b : ℕ). leb (firstOf (isLeast a b) everyMode) 6) refl a b)
+join-small a b = leb-true _ _ (all2 (λ (a b : ℕ). leb (firstOf (isLeast a b) zeroToX) 6) refl a b)
 
 pub join-mode : (a b : ℕ) → isMode b ≡ true → isMode (join a b) ≡ true
 unfolding join
 join-mode a b h =
     mode-number (join a b)
     ∙ implied _ _
-    (all2 (λ (a b : ℕ). not (not (eqb b 0)) || not (eqb (asMode (firstOf (isLeast a b) everyMode)) 0)) refl a b)
+    (all2 (λ (a b : ℕ). not (not (eqb b 0)) || not (eqb (asMode (firstOf (isLeast a b) zeroToX)) 0)) refl a b)
     (sym (mode-number b) ∙ h)
 
 -- what a covers goes with whatever a goes with

@@ -8,7 +8,7 @@ use lib.Dec.{eqb, leb, ltb}
 use lib.ListN.{getD}
 use native.Mathlib.Omega.{arith}
 use borrow.Author.Tests.{le-leb, lt-leb, lt-ltb, leb-false, eqb-true, not-true}
-use Rattle.modes.specs.Modes.{asMode, among, writes, goes, over, isLeast, firstOf, everyMode, goesWith, covers, join}
+use Rattle.modes.specs.Modes.{asMode, among, writes, goes, over, isLeast, firstOf, zeroToX, goesWith, covers, join}
 use Rattle.modes.specs.Place.{placeIn, placeOf}
 use Rattle.modes.proofs.Range.{every2, same, implied}
 use Rattle.modes.proofs.Laws.{all1, all2}
@@ -89,7 +89,7 @@ module _ (a b i j : ℕ) (pi : i ≡ placeOf a) (pj : j ≡ placeOf b) where
       sym (known a (omega arith))
       ∙ eqb-true _ _
       (implied _ _
-      (implied _ _ (all2 (λ (a b : ℕ). not (ltb (placeIn a) 6) || (not (leb 6 (placeIn b)) || eqb a (firstOf (isLeast a b) everyMode))) refl a b) (lt-ltb (placeOf a) 6 (omega arith)))
+      (implied _ _ (all2 (λ (a b : ℕ). not (ltb (placeIn a) 6) || (not (leb 6 (placeIn b)) || eqb a (firstOf (isLeast a b) zeroToX))) refl a b) (lt-ltb (placeOf a) 6 (omega arith)))
       (le-leb 6 (placeOf b) (omega arith)))
 
   pub join-first : 6 ≤ i → j < 6 → b ≡ join a b
@@ -98,7 +98,7 @@ module _ (a b i j : ℕ) (pi : i ≡ placeOf a) (pj : j ≡ placeOf b) where
       sym (known b (omega arith))
       ∙ eqb-true _ _
       (implied _ _
-      (implied _ _ (all2 (λ (a b : ℕ). not (leb 6 (placeIn a)) || (not (ltb (placeIn b) 6) || eqb b (firstOf (isLeast a b) everyMode))) refl a b) (le-leb 6 (placeOf a) (omega arith)))
+      (implied _ _ (all2 (λ (a b : ℕ). not (leb 6 (placeIn a)) || (not (ltb (placeIn b) 6) || eqb b (firstOf (isLeast a b) zeroToX))) refl a b) (le-leb 6 (placeOf a) (omega arith)))
       (lt-ltb (placeOf b) 6 (omega arith)))
 
   pub join-none : 6 ≤ i → 6 ≤ j → 0 ≡ join a b
@@ -106,7 +106,7 @@ module _ (a b i j : ℕ) (pi : i ≡ placeOf a) (pj : j ≡ placeOf b) where
   join-none h k =
       eqb-true _ _
       (implied _ _
-      (implied _ _ (all2 (λ (a b : ℕ). not (leb 6 (placeIn a)) || (not (leb 6 (placeIn b)) || eqb 0 (firstOf (isLeast a b) everyMode))) refl a b) (le-leb 6 (placeOf a) (omega arith)))
+      (implied _ _ (all2 (λ (a b : ℕ). not (leb 6 (placeIn a)) || (not (leb 6 (placeIn b)) || eqb 0 (firstOf (isLeast a b) zeroToX))) refl a b) (le-leb 6 (placeOf a) (omega arith)))
       (le-leb 6 (placeOf b) (omega arith)))
 
 -- W, U and X are the modes that cover W

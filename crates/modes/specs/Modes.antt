@@ -1,5 +1,6 @@
 -- Document 01, 'Modes': who goes with whom, who covers whom, what two modes join to, who writes.
--- A mode is its number. Every definition is total: a number above 6 counts as 0, no lock.
+-- A mode is its number. `goesWith`, `covers`, `join`, `writes` and `isMode` are the rules, total on every number: one above 6 counts
+-- as 0, no lock. What they are made of (`companions`, `goes`, `over` ..) is for numbers up to 6.
 use mathlib.Core.Bool.{Bool, true, false, cond, _&&_, _||_, not}
 use mathlib.Core.List.{List, [], _∷_}
 use Prim.Native.Nat.{ℕ, zero, suc}
@@ -51,7 +52,7 @@ rowOf (suc (suc (suc (suc zero)))) m r s w u x = w
 rowOf (suc (suc (suc (suc (suc zero))))) m r s w u x = u
 rowOf (suc (suc (suc (suc (suc (suc n)))))) m r s w u x = x
 
--- "Compatible (document 004, table 2)": the modes that each goes with
+-- "Compatible (document 004, table 2)": the modes that each of the six goes with
 abbrev pub companions : ℕ → List ℕ
 companions n =
     rowOf
@@ -82,8 +83,8 @@ goes a b = eqb a 0 || eqb b 0 || among b (companions a)
 abbrev pub over : ℕ → ℕ → Bool
 over a b = eqb b 0 || among b (covered a)
 
-abbrev pub everyMode : List ℕ
-everyMode = 0 ∷ M ∷ R ∷ S ∷ W ∷ U ∷ X ∷ []
+abbrev pub zeroToX : List ℕ
+zeroToX = 0 ∷ M ∷ R ∷ S ∷ W ∷ U ∷ X ∷ []
 
 abbrev pub coversBoth : ℕ → ℕ → ℕ → Bool
 coversBoth a b m = over m a && over m b
@@ -98,7 +99,7 @@ firstOf p (m ∷ ms) = cond (p m) m (firstOf p ms)
 
 -- "the least that covers both": it does, and whatever else does covers it
 abbrev pub isLeast : ℕ → ℕ → ℕ → Bool
-isLeast a b m = coversBoth a b m && allOf (λ (n : ℕ). not (coversBoth a b n) || over n m) everyMode
+isLeast a b m = coversBoth a b m && allOf (λ (n : ℕ). not (coversBoth a b n) || over n m) zeroToX
 
 -- whether two stations may hold a and b on one profile
 unfoldable pub goesWith : ℕ → ℕ → Bool
@@ -110,7 +111,7 @@ covers a b = over (asMode a) (asMode b)
 
 -- "The join of two modes is the least that covers both"
 unfoldable pub join : ℕ → ℕ → ℕ
-join a b = firstOf (isLeast (asMode a) (asMode b)) everyMode
+join a b = firstOf (isLeast (asMode a) (asMode b)) zeroToX
 
 -- "Only W, U, X write."
 unfoldable pub writes : ℕ → Bool

@@ -1,6 +1,6 @@
 // The six modes of a lock, and which of them go together, cover one another and join to which.
 ghost use mathlib.Core.Path.{_≡_};
-ghost use Rattle.modes.specs.Modes.{isMode, goesWith, covers, join, writes, mode};
+ghost use Rattle.modes.specs.Modes.{asMode, isMode, goesWith, covers, join, writes, mode};
 ghost use Rattle.modes.specs.Place.{placeOf};
 
 // A mode by its number in the paper. A number above 6 counts as no lock everywhere.
@@ -51,6 +51,21 @@ impl Mode {
         [5, 5, 5, 5, 5, 6],
         [6, 6, 6, 6, 6, 6],
     ];
+
+    // The mode of a number; what is not 1 to 6 is no lock.
+    pub fn of(number: u8) -> Mode
+        ensures { λ r. ⌜ r ≡ mode (asMode number) ⌝ }
+    {
+        match number {
+            1 => Mode::M,
+            2 => Mode::R,
+            3 => Mode::S,
+            4 => Mode::W,
+            5 => Mode::U,
+            6 => Mode::X,
+            _ => Mode::NONE,
+        }
+    }
 
     // Whether it is one of the six, and not 'no lock'.
     pub fn is_mode(self) -> bool

@@ -6,7 +6,7 @@ use Rattle.timing.specs.Settings.{Settings, lease}
 pub use Rattle.timing.specs.declared.settings.Phase.{Phase}
 pub use Rattle.timing.specs.declared.settings.Phase.the-variants.{First, Second, Third, Fourth, Out}
 
--- a phase in the paper's numbers, 0 for out, and the ticks until it ends, 0 for out
+-- a phase in the paper's numbers, with the ticks until it ends; out is 0 and 0. A closing station's phases are the room's rule.
 pub record SaidPhase : Type 0 where
   pub number : ℕ
   pub left : ℕ
@@ -28,7 +28,7 @@ edge2 z = z .phase1 + z .phase2
 abbrev pub edge3 : Settings → ℕ
 edge3 z = z .phase1 + z .phase2 + z .phase3
 
--- the phase some ticks after the lease start: the first that has not ended
+-- the phase some ticks after the lease start: the first that has not ended. The engines ask it of settings in range only.
 unfoldable pub phaseAfter : Settings → ℕ → Phase
 phaseAfter z ticks =
     cond (ltb ticks (edge1 z)) (First (edge1 z - ticks))

@@ -5,7 +5,7 @@ use lib.Dec.{leb}
 use Rattle.timing.specs.Limits.{leaseShortest, leaseLongest, rateLargest, answerLongest, mostStations, mostProfiles}
 pub use Rattle.timing.specs.declared.settings.Settings.{Settings}
 
--- "Settings are made from nine numbers": four phase lengths, N, D, R, stations, profiles
+-- settings from nine numbers: four phase lengths, N, D, R, stations, profiles
 abbrev pub settings : ℕ → ℕ → ℕ → ℕ → ℕ → ℕ → ℕ → ℕ → ℕ → Settings
 settings phase1 phase2 phase3 phase4 n d r stations profiles =
     record {
@@ -56,7 +56,7 @@ settingsRefusal z = cond (inRange z) 0 1
 abbrev pub roundedUp : ℕ → ℕ → ℕ
 roundedUp a d = (a + (d - 1)) / d
 
--- "The wait is W = L·(D+N)/D rounded up to a whole number, plus 1."
+-- "The wait is W = L·(D+N)/D rounded up to a whole number, plus 1." It means something for settings in range only.
 unfoldable pub wait : Settings → ℕ
 wait z = roundedUp (lease z * (z .d + z .n)) (z .d) + 1
 
@@ -67,7 +67,11 @@ leaseAnswer z = cond (inRange z) (lease z) 0
 abbrev pub waitAnswer : Settings → ℕ
 waitAnswer z = cond (inRange z) (wait z) 0
 
--- "for any two moments, with reading differences a on one clock and b on the other, (b-1)·D < (a+1)·(D+N)", one way round.
--- Where b is 0 the left side is below 0, and 0 here: the rule holds either way, since D is at least 1.
+-- "with reading differences a on one clock and b on the other, (b-1)·D < (a+1)·(D+N)", one way round.
+-- Where b is 0 the paper's left side is below 0, and here it is 0: the rule holds of both, since D is at least 1.
 abbrev pub Rate : Settings → ℕ → ℕ → Type 0
 Rate z a b = (b - 1) * z .d < (a + 1) * (z .d + z .n)
+
+-- ".., either way round"
+abbrev pub RateRule : Settings → ℕ → ℕ → Type 0
+RateRule z a b = Rate z a b × Rate z b a

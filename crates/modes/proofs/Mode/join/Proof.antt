@@ -2,7 +2,7 @@ use mathlib.Core.Path.{refl, ap}
 use Prim.Native.Nat.{ℕ}
 use lib.Dec.{eqb}
 use borrow.Author.Tests.{eqb-true}
-use Rattle.modes.specs.Modes.{mode, join, isLeast, firstOf, everyMode}
+use Rattle.modes.specs.Modes.{mode, join, isLeast, firstOf, zeroToX}
 use Rattle.modes.proofs.Lookup.{as-cell, looked, join-first, join-second, join-none}
 use borrow.Author.Needs.{needs}
 use Rattle.modes.proofs.Mode.join.Statement.{statement}
@@ -27,7 +27,7 @@ returns : tie.Need-returns
 unfolding join
 returns c =
     let a = c .before .before .before .before .before .args in
-    ap mode (rw (as-cell {A = ℕ} 0) (looked 0 eqb eqb-true _ (λ (a b : ℕ). firstOf (isLeast a b) everyMode) (a .self .0) (a .other .0) _ _ (c .before .before .before .before .place .ensures) (c .before .before .before .place2 .ensures) (c .before .before .if1 .taken) (c .before .if2 .taken) refl))
+    ap mode (rw (as-cell {A = ℕ} 0) (looked 0 eqb eqb-true _ (λ (a b : ℕ). firstOf (isLeast a b) zeroToX) (a .self .0) (a .other .0) _ _ (c .before .before .before .before .place .ensures) (c .before .before .before .place2 .ensures) (c .before .before .if1 .taken) (c .before .if2 .taken) refl))
 
 returns-2 : tie.Need-returns-2
 returns-2 c =

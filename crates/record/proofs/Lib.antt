@@ -1,0 +1,10 @@
+pub mod BigEndian
+pub mod Ways
+pub mod Lent
+pub mod Said
+pub mod Cases
+pub mod Round
+pub mod Turns
+pub mod Passing
+pub mod Held
+pub mod RunBack

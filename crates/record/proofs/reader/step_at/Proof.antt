@@ -1,0 +1,29 @@
+-- A record gives the next place, a refusal the place itself.
+use mathlib.Core.Path.{sym, _∙_}
+use borrow.Author.Needs.{needs}
+use Rattle.record.proofs.reader.step_at.Statement.{statement}
+use Rattle.record.proofs.reader.step_at.Tie as tie
+
+record-at-requires : tie.Need-record-at-requires
+record-at-requires c κs = search needs
+
+enum-known-read : tie.Need-enum-known-read
+enum-known-read c = search needs
+
+enum-told : tie.Need-enum-told
+enum-told c = search needs
+
+returns : tie.Need-returns
+returns c =
+    let r = c .before .before .before .record-at in
+    let e = sym (r .ensures) ∙ c .before .read .given .1 in
+    simp e
+
+returns-2 : tie.Need-returns-2
+returns-2 c =
+    let r = c .before .before .record-at in
+    let e = sym (r .ensures) ∙ c .enum-told .given .1 in
+    simp (r .ensures, e)
+
+pub step-at-spec : {M : Type 1} → statement M
+step-at-spec = tie.close (tie.spec record-at-requires enum-known-read enum-told returns returns-2)

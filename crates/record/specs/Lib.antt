@@ -1,0 +1,6 @@
+pub mod Number
+pub mod Allowed
+pub mod Read
+pub mod Put
+pub mod Run
+pub mod Reader

@@ -1,0 +1,86 @@
+-- The step put together: what the code puts back is what the rules say.
+-- Assumes nothing.
+use mathlib.Core.Path.{_≡_, refl, sym, ap, _∙_, fun-ext}
+use mathlib.Core.Bool.{Bool, true, false}
+use mathlib.Core.List.{List, [], _∷_, map}
+use Prim.Native.Nat.{ℕ, zero, suc}
+use lib.Bits.{bitAnd}
+use lib.ListN.{getD, set}
+use Rattle.masks.specs.Mask.{Set, mask, both, changeUnder}
+use Rattle.masks.proofs.Laws.{under-in, mask-both}
+use Rattle.server.specs.State.{Unknown, TimingOut, Member, Profile, Server, memberAt, noProfile}
+use Rattle.server.specs.Sets.{only, liveSet, lateSet, wiped, turned, restatus}
+use Rattle.server.specs.Under.{wipedUnder}
+use Rattle.server.specs.Ask.{Ticked, Refused}
+use Rattle.server.specs.Hear.{Request, Heard, hear}
+use Rattle.server.specs.Refusal.{Event, refusal}
+use Rattle.server.specs.Tick.{freedSet, free, startedSet, start}
+use Rattle.server.specs.Step.{profileOf, wipedIf, afterHeard, message, tick, act, ifGood, step}
+use Rattle.server.proofs.Under.{wiped-under}
+
+-- all profiles wiped by a mask are all profiles wiped in its set
+pub wiped-all : (s : Set) (m : ℕ) → m ≡ mask s → (xs : List Profile) → map (wipedUnder m) xs ≡ map (wiped s) xs
+wiped-all s m e xs =
+    ap (λ (n : ℕ). map (wipedUnder n) xs) e ∙ ap (λ (f : Profile → Profile). map f xs) (fun-ext (wiped-under s))
+
+-- wiping nobody
+nobody-wiped : (x : Profile) → wipedUnder 0 x ≡ x
+unfolding wiped
+nobody-wiped x = wiped-under [] x
+
+pub none-wiped : (xs : List Profile) → xs ≡ map (wipedUnder 0) xs
+none-wiped [] = refl
+none-wiped (x ∷ xs) = λ i. sym (nobody-wiped x) i ∷ none-wiped xs i
+
+module _ (s : Server) (now i number : ℕ) (q : Request) (p : ℕ) (at : p ≡ profileOf q) (h : Heard) (heard : h ≡ hear (liveSet (s .members)) now i number q (memberAt s i) (getD (s .profiles) p noProfile)) where
+  pub put-back : (profiles : List Profile) → profiles ≡ wipedIf (h .greeted) i (set (s .profiles) p (h .profile))
+      → record { server = record { settings = s .settings; reading = now; members = set (s .members) i (h .member); profiles = profiles }; answer = h .answer } ≡ message s now i number q
+  unfolding message
+  put-back profiles e =
+      ap (λ (xs : List Profile). record { server = record { settings = s .settings; reading = now; members = set (s .members) i (h .member); profiles = xs }; answer = h .answer }) e
+      ∙ ap (afterHeard s now i p) heard
+      ∙ ap (λ (k : ℕ). afterHeard s now i k (hear (liveSet (s .members)) now i number q (memberAt s i) (getD (s .profiles) k noProfile))) at
+
+  pub greeted-all : h .greeted ≡ true → (m : ℕ) → m ≡ mask (only i) → (profiles : List Profile) → profiles ≡ map (wipedUnder m) (set (s .profiles) p (h .profile)) → profiles ≡ wipedIf (h .greeted) i (set (s .profiles) p (h .profile))
+  greeted-all g m e profiles q =
+      q ∙ wiped-all (only i) m e (set (s .profiles) p (h .profile)) ∙ sym (ap (λ (b : Bool). wipedIf b i (set (s .profiles) p (h .profile))) g)
+
+  pub greeted-not : h .greeted ≡ false → set (s .profiles) p (h .profile) ≡ wipedIf (h .greeted) i (set (s .profiles) p (h .profile))
+  greeted-not g = sym (ap (λ (b : Bool). wipedIf b i (set (s .profiles) p (h .profile))) g)
+
+module _ (s : Server) (wait now : ℕ) (m : ℕ) (is-freed : m ≡ mask (freedSet wait now s)) (members : List Member) (turned-members : members ≡ changeUnder (restatus Unknown) m (s .members)) (profiles : List Profile) (wiped-profiles : profiles ≡ map (wipedUnder m) (s .profiles)) where
+  freed-members : members ≡ turned Unknown (freedSet wait now s) (s .members)
+  freed-members =
+      turned-members
+      ∙ ap (λ (n : ℕ). changeUnder (restatus Unknown) n (s .members)) is-freed
+      ∙ under-in (restatus Unknown) (freedSet wait now s) (s .members)
+
+  freed-profiles : profiles ≡ map (wiped (freedSet wait now s)) (s .profiles)
+  freed-profiles = wiped-profiles ∙ wiped-all (freedSet wait now s) m is-freed (s .profiles)
+
+  module _ (late live : ℕ) (is-late : late ≡ mask (lateSet (s .settings .r) now profiles)) (is-live : live ≡ mask (liveSet members)) where
+    started : bitAnd late live ≡ mask (startedSet now (free wait now s))
+    unfolding startedSet free
+    started =
+        ap (λ (n : ℕ). bitAnd n live) is-late
+        ∙ ap (bitAnd (mask (lateSet (s .settings .r) now profiles))) is-live
+        ∙ mask-both (lateSet (s .settings .r) now profiles) (liveSet members)
+        ∙ (λ k. mask (both (lateSet (s .settings .r) now (freed-profiles k)) (liveSet (freed-members k))))
+
+    pub ticked : (next : List Member) → next ≡ changeUnder (restatus (TimingOut now)) (bitAnd late live) members
+        → record { server = record { settings = s .settings; reading = now; members = next; profiles = profiles }; answer = Ticked m (bitAnd late live) } ≡ tick wait s now
+    unfolding tick start free startedSet
+    ticked next e =
+        let f : next ≡ turned (TimingOut now) (startedSet now (free wait now s)) (turned Unknown (freedSet wait now s) (s .members)) = e ∙ (λ k. changeUnder (restatus (TimingOut now)) (started k) (freed-members k)) ∙ under-in (restatus (TimingOut now)) (startedSet now (free wait now s)) (turned Unknown (freedSet wait now s) (s .members)) in
+        λ k. record { server = record { settings = s .settings; reading = now; members = f k; profiles = freed-profiles k }; answer = Ticked (is-freed k) (started k) }
+
+-- refused by 1 to 6, and not
+module _ (wait : ℕ) (s : Server) (now : ℕ) (e : Event) where
+  pub refused-step : (n : ℕ) → n ≡ refusal (s .settings) (s .reading) now e → (n ≡ 0 → ⊥) → record { server = s; answer = Refused n } ≡ step wait s now e
+  unfolding step
+  refused-step zero q h = absurd (h refl)
+  refused-step (suc n) q h = ap (λ (k : ℕ). ifGood k wait s now e) q
+
+  pub accepted-step : refusal (s .settings) (s .reading) now e ≡ 0 → act wait s now e ≡ step wait s now e
+  unfolding step
+  accepted-step h = sym (ap (λ (k : ℕ). ifGood k wait s now e) h)

@@ -1,0 +1,19 @@
+-- `changed_if` changes a mark under the lowest bit.
+use mathlib.Core.Path.{ap, _∙_}
+use borrow.Author.Tests.{eq-eqb, ne-eqb}
+use Rattle.server.specs.State.{Mark}
+use borrow.Author.Needs.{needs}
+use Rattle.server.proofs.mark.changed_if.Statement.{statement}
+use Rattle.server.proofs.mark.changed_if.Tie as tie
+
+changed-requires : tie.Need-changed-requires
+changed-requires c κs = search needs
+
+returns : tie.Need-returns
+returns c = ap (λ (m : Mark). record { mark = m }) (c .changed .ensures) ∙ simp (eq-eqb _ _ (c .before .if1 .taken))
+
+returns-2 : tie.Need-returns-2
+returns-2 c = simp (ne-eqb _ _ (c .if1 .left))
+
+pub changed-if-spec : {M : Type 1} → statement M
+changed-if-spec = tie.close (tie.spec changed-requires returns returns-2)

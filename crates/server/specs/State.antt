@@ -1,0 +1,65 @@
+-- What the server has: of each station a status and a last number, of each profile a row of modes and a row of marks.
+use mathlib.Core.List.{[]}
+use Prim.Native.Nat.{ℕ}
+use lib.ListN.{getD, replicate}
+use Rattle.modes.specs.Modes.{mode}
+use Rattle.timing.specs.Limits.{mostStations, mostProfiles}
+use Rattle.timing.specs.declared.settings.Settings.{Settings}
+pub use Rattle.server.specs.declared.member.Status.{Status}
+pub use Rattle.server.specs.declared.member.Status.the-variants.{Unknown, Live, TimingOut}
+pub use Rattle.server.specs.declared.member.Member.{Member}
+pub use Rattle.server.specs.declared.mark.Mark.{Mark}
+pub use Rattle.server.specs.declared.mark.Mark.the-variants.{Unmarked, Demanded, Kept}
+pub use Rattle.server.specs.declared.mark.Marked.{Marked}
+pub use Rattle.server.specs.declared.profile.Profile.{Profile}
+pub use Rattle.server.specs.declared.server.Server.{Server}
+
+-- "A station is unknown (at the start)"; "last numbers and readings start at 0"
+abbrev pub nobody : Member
+nobody = record { status = Unknown; last = 0 }
+
+-- "a mark: none"
+abbrev pub noMark : Marked
+noMark = record { mark = Unmarked }
+
+abbrev pub emptyProfile : Profile
+emptyProfile = record { row = replicate mostStations (mode 0); marks = replicate mostStations noMark }
+
+-- what stands beyond the last profile
+abbrev pub noProfile : Profile
+noProfile = record { row = []; marks = [] }
+
+unfoldable pub newServer : Settings → Server
+newServer z =
+    record {
+      settings = z;
+      reading = 0;
+      members = replicate mostStations nobody;
+      profiles = replicate mostProfiles emptyProfile;
+    }
+
+-- the state, asked: station i, profile p
+abbrev pub memberAt : Server → ℕ → Member
+memberAt s i = getD (s .members) i nobody
+
+abbrev pub statusOf : Server → ℕ → Status
+statusOf s i = memberAt s i .status
+
+abbrev pub lastOf : Server → ℕ → ℕ
+lastOf s i = memberAt s i .last
+
+abbrev pub profileAt : Server → ℕ → Profile
+profileAt s p = getD (s .profiles) p noProfile
+
+-- the mode's number
+abbrev pub modeIn : Profile → ℕ → ℕ
+modeIn x i = getD (x .row) i (mode 0) .0
+
+abbrev pub markIn : Profile → ℕ → Mark
+markIn x i = getD (x .marks) i noMark .mark
+
+abbrev pub modeOf : Server → ℕ → ℕ → ℕ
+modeOf s i p = modeIn (profileAt s p) i
+
+abbrev pub markOf : Server → ℕ → ℕ → Mark
+markOf s i p = markIn (profileAt s p) i

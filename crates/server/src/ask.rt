@@ -1,0 +1,64 @@
+// The ask rule, on one profile.
+use crate::event::Answer;
+use crate::mark;
+use crate::mark::Change;
+use crate::mark::EVERYONE;
+use crate::mark::Which;
+use crate::member;
+use crate::member::Member;
+use crate::profile::Profile;
+use crate::row;
+use modes::Mode;
+use timing::settings::Settings;
+ghost use mathlib.Core.Path.{_≡_};
+ghost use Rattle.server.specs.Sets.{liveSet};
+ghost use Rattle.server.specs.Ask.{askRule};
+
+pub struct Ruled {
+    pub profile: Profile,
+    pub answer: Answer,
+}
+
+// `number` is the profile's; `members` tell which stations are live.
+pub fn ask(
+    profile: Profile,
+    number: u8,
+    members: [Member; Settings::STATIONS],
+    me: usize,
+    asked: Mode,
+    now: u64,
+) -> Ruled
+    ensures { λ r. ⌜ r ≡ askRule (liveSet members) number now me (asked .0) profile ⌝ }
+{
+    let modes = profile.row;
+    let marks = profile.marks;
+    let wanted = row::held(modes, me).join(asked);
+    let conflicts = row::conflicts(modes, me, wanted);
+    if conflicts == 0 {
+        return Ruled {
+            profile: Profile {
+                row: row::with_mode(modes, me, wanted),
+                marks,
+            },
+            answer: Answer::Granted(number, wanted),
+        };
+    }
+    let kept = mark::marks_in(marks, Which::Kept);
+    if conflicts & kept != 0 {
+        return Ruled {
+            profile: Profile {
+                row: modes,
+                marks: mark::change_in(marks, EVERYONE, Change::DropKept),
+            },
+            answer: Answer::InUse(number),
+        };
+    }
+    let demanded = conflicts & member::members_in(members, member::Which::Live);
+    Ruled {
+        profile: Profile {
+            row: modes,
+            marks: mark::change_in(marks, demanded, Change::Demand(now)),
+        },
+        answer: Answer::Wait(number, wanted, demanded, masks::count(demanded)),
+    }
+}

@@ -1,0 +1,199 @@
+// The server: its settings, its last reading, its stations and its profiles.
+use crate::event::Answer;
+use crate::event::Event;
+use crate::event::Request;
+use crate::hear;
+use crate::member;
+use crate::member::Member;
+use crate::member::Status;
+use crate::member::Which;
+use crate::profile;
+use crate::profile::Profile;
+use timing::reading::Reading;
+use timing::settings::Settings;
+ghost use mathlib.Core.Path.{_≡_};
+ghost use Prim.Native.Nat.{_<_};
+ghost use Rattle.timing.specs.Limits.{mostStations, mostProfiles};
+ghost use Rattle.timing.specs.Settings.{wait, waitAnswer};
+ghost use Rattle.server.specs.Refusal.{requestRefusal, profileRefusal, eventRefusal, refusal};
+ghost use Rattle.server.specs.Said.{said};
+ghost use Rattle.server.specs.Step.{profileOf, made, message, tick, step};
+
+pub struct Server {
+    settings: Settings,
+    reading: u64,
+    members: [Member; Settings::STATIONS],
+    profiles: [Profile; Settings::PROFILES],
+}
+
+// A new server, and 0 or the refusal of its settings.
+pub struct Made {
+    pub server: Server,
+    pub refusal: u8,
+}
+
+pub struct Served {
+    pub server: Server,
+    pub answer: Answer,
+}
+
+// 3 and 4: a profile or a mode out of range.
+fn request_refusal(profiles: u64, request: Request) -> u8
+    ensures { λ r. ⌜ r ≡ requestRefusal profiles request ⌝ }
+{
+    match request {
+        Request::Hello => 0,
+        Request::KeepAlive => 0,
+        Request::Ask(profile, mode) => {
+            if profile as u64 >= profiles {
+                return 3;
+            }
+            if mode.is_mode() { 0 } else { 4 }
+        }
+        Request::Release(profile) => profile_refusal(profiles, profile),
+        Request::Keep(profile) => profile_refusal(profiles, profile),
+    }
+}
+
+fn profile_refusal(profiles: u64, profile: u8) -> u8
+    ensures { λ r. ⌜ r ≡ profileRefusal profiles profile ⌝ }
+{
+    if profile as u64 >= profiles { 3 } else { 0 }
+}
+
+// 2 to 4: what the event names is out of range.
+fn event_refusal(settings: Settings, event: Event) -> u8
+    ensures { λ r. ⌜ r ≡ eventRefusal settings event ⌝ }
+{
+    match event {
+        Event::Message(station, _, request) => {
+            if station as u64 >= settings.stations() {
+                return 2;
+            }
+            request_refusal(settings.profiles(), request)
+        }
+        Event::Tick => 0,
+    }
+}
+
+// 1 to 6, the lowest that applies, or 0.
+fn refusal(settings: Settings, last: u64, reading: u64, event: Event) -> u8
+    ensures { λ r. ⌜ r ≡ refusal settings last reading event ⌝ }
+{
+    if settings.refusal() != 0 {
+        return 1;
+    }
+    let named = event_refusal(settings, event);
+    if named != 0 {
+        return named;
+    }
+    if Reading::LIMIT < reading {
+        return 5;
+    }
+    if reading < last {
+        return 6;
+    }
+    0
+}
+
+// The profile that a request names, 0 where it names none.
+fn profile_of(request: Request) -> u8
+    ensures { λ r. ⌜ r ≡ profileOf request ⌝ }
+{
+    match request {
+        Request::Hello => 0,
+        Request::KeepAlive => 0,
+        Request::Ask(profile, _) => profile,
+        Request::Release(profile) => profile,
+        Request::Keep(profile) => profile,
+    }
+}
+
+impl Server {
+    pub fn new(settings: Settings) -> Made
+        ensures { λ r. ⌜ r ≡ made settings ⌝ }
+    {
+        let nobody = Member {
+            status: Status::Unknown,
+            last: 0,
+        };
+        let members = [nobody; Settings::STATIONS];
+        let empty = Profile::empty();
+        let profiles = [empty; Settings::PROFILES];
+        Made {
+            server: Server {
+                settings,
+                reading: 0,
+                members,
+                profiles,
+            },
+            refusal: settings.refusal(),
+        }
+    }
+
+    pub fn step(self, reading: u64, event: Event) -> Served
+        ensures { λ r. ⌜ (r .server ≡ step (wait (self .settings)) self reading event .server) × (said (r .answer) ≡ said (step (wait (self .settings)) self reading event .answer)) ⌝ }
+    {
+        let code = refusal(self.settings, self.reading, reading, event);
+        if code != 0 {
+            return Served {
+                server: self,
+                answer: Answer::Refused(code),
+            };
+        }
+        match event {
+            Event::Message(station, number, request) => {
+                self.message(reading, station, number, request)
+            }
+            Event::Tick => self.tick(reading),
+        }
+    }
+
+    fn message(self, reading: u64, station: u8, number: u32, request: Request) -> Served
+        requires { ⌜ (station < mostStations) × (profileOf request < mostProfiles) ⌝ }
+        ensures { λ r. ⌜ r ≡ message self reading station number request ⌝ }
+    {
+        let mut s = self;
+        let i = station as usize;
+        let at = profile_of(request) as usize;
+        let members = s.members;
+        let member = s.members[i];
+        let profile = s.profiles[at];
+        let heard = hear::hear(member, profile, members, reading, i, number, request);
+        let next_member = heard.member;
+        let next_profile = heard.profile;
+        let greeted = heard.greeted;
+        let answer = heard.answer;
+        s.reading = reading;
+        s.members[i] = next_member;
+        s.profiles[at] = next_profile;
+        if greeted {
+            let profiles = s.profiles;
+            let wiped = profile::wipe_all(profiles, hear::only(i));
+            s.profiles = wiped;
+        }
+        Served { server: s, answer }
+    }
+
+    fn tick(self, reading: u64) -> Served
+        ensures { λ r. ⌜ r ≡ tick (waitAnswer (self .settings)) self reading ⌝ }
+    {
+        let mut s = self;
+        let wait = s.settings.wait();
+        let members = s.members;
+        let freed = member::members_in(members, Which::Waited { now: reading, wait });
+        let after = member::turn_in(members, freed, Status::Unknown);
+        let profiles = s.profiles;
+        let wiped = profile::wipe_all(profiles, freed);
+        let late = profile::late(wiped, reading, s.settings.answer_time());
+        let started = late & member::members_in(after, Which::Live);
+        let next = member::turn_in(after, started, Status::TimingOut(reading));
+        s.reading = reading;
+        s.members = next;
+        s.profiles = wiped;
+        Served {
+            server: s,
+            answer: Answer::Ticked(freed, started),
+        }
+    }
+}
