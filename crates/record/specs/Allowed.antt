@@ -2,6 +2,7 @@
 use Prim.Native.Nat.{ℕ}
 use mathlib.Core.Bool.{Bool, _&&_, _||_}
 use lib.Dec.{eqb, ltb, leb}
+use Rattle.timing.specs.Limits.{mostStations, mostProfiles}
 use Rattle.record.specs.declared.message.Message.{Message}
 
 -- the kinds that the record lists: 1 hello to 8 demand
@@ -14,11 +15,11 @@ bare m = eqb (m .profile) 255 && eqb (m .mode) 0
 
 -- "profile, 0": "profile 0 to 63", and no mode
 abbrev pub modeless : Message → Bool
-modeless m = ltb (m .profile) 64 && eqb (m .mode) 0
+modeless m = ltb (m .profile) mostProfiles && eqb (m .mode) 0
 
 -- "profile 0 to 63, mode 1 to 6", where the first mode is 1; a demand's is 2
 abbrev pub modeFrom : ℕ → Message → Bool
-modeFrom first m = ltb (m .profile) 64 && (leb first (m .mode) && leb (m .mode) 6)
+modeFrom first m = ltb (m .profile) mostProfiles && (leb first (m .mode) && leb (m .mode) 6)
 
 -- "1 hello and 2 keep-alive: 255, 0, 0."
 abbrev pub greets : Message → Bool
@@ -54,4 +55,4 @@ demands m = eqb (m .kind) 8 && eqb (m .number) 0 && modeFrom 2 m && eqb (m .deta
 
 -- "station 0 to 15"; "All other numbers are at least 1."
 unfoldable pub allowed : Message → Bool
-allowed m = ltb (m .station) 16 && (leb 1 (m .number) && others m || demands m)
+allowed m = ltb (m .station) mostStations && (leb 1 (m .number) && others m || demands m)

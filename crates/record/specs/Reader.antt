@@ -9,7 +9,7 @@ use Rattle.record.specs.declared.reader.Reader.{Reader}
 use Rattle.record.specs.declared.reader.Step.{Step}
 use Rattle.record.specs.declared.reader.Taken.{Taken}
 use Rattle.record.specs.declared.reader.Passed.{Passed}
-use Rattle.record.specs.Read.{readAt}
+use Rattle.record.specs.Read.{readAt, saidRead}
 
 -- "15 to 19 leave place .. untouched": a record moves the reader past it, a refusal leaves it where it stood
 abbrev pub afterRead : Read → ℕ → ℕ
@@ -26,6 +26,14 @@ takenBy r =
       read = readAt (now (r .src)) (r .at);
       reader = record { src = r .src; at = nextPlace (now (r .src)) (r .at) };
     }
+
+-- What was taken in the paper's numbers, with the reader afterwards.
+pub record SaidTaken : Type 0 where
+  pub read : List ℕ
+  pub reader : Reader
+
+abbrev pub saidTaken : Taken → SaidTaken
+saidTaken t = record { read = saidRead (t .read); reader = t .reader }
 
 abbrev pub stepAt : List ℕ → ℕ → Step
 stepAt s at = record { read = readAt s at; at = nextPlace s at }

@@ -1,4 +1,7 @@
-// A message: six plain numbers, so that one the record does not allow can be put to the writer and is refused there.
+// A message, and the numbers of its record by name.
+use timing::settings::Settings;
+
+// Six plain numbers, so that a message the record does not allow can be put to the writer and is refused there.
 pub struct Message {
     pub kind: u8,
     pub station: u8,
@@ -47,13 +50,13 @@ impl Message {
     pub const NO_DETAIL: u8 = 0;
 
     // Limits: stations and profiles count from 0; modes, and the numbers of all kinds but a demand, from 1.
-    pub const STATIONS: u8 = 16;
+    pub const STATIONS: u8 = Settings::STATIONS as u8;
 
     pub const NO_NUMBER: u32 = 0;
 
     pub const FIRST_NUMBER: u32 = 1;
 
-    pub const PROFILES: u8 = 64;
+    pub const PROFILES: u8 = Settings::PROFILES as u8;
 
     pub const NO_PROFILE: u8 = 255;
 

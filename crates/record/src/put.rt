@@ -6,7 +6,7 @@ ghost use mathlib.Core.Path.{_≡_};
 ghost use mathlib.Core.List.{_++_};
 ghost use Prim.Native.Nat.{_≤_, min};
 ghost use lib.ListN.{length, drop};
-ghost use Rattle.record.specs.Put.{bytesOf, putAnswer, putContent};
+ghost use Rattle.record.specs.Put.{bytesOf, putAnswer, putContent, saidPut};
 
 // The place after the record, or the number of refusal.
 pub enum Put {
@@ -35,7 +35,7 @@ fn store(buf: &mut [u8], m: Message)
 
 // A record into the front of a buffer.
 pub fn put_record(buf: &mut [u8], m: Message) -> Put
-    ensures { λ r. ⌜ (r ≡ putAnswer m 0 (now (buf .entry))) × (now (buf .exit) ≡ putContent m 0 (now (buf .entry))) ⌝ }
+    ensures { λ r. ⌜ (saidPut r ≡ saidPut (putAnswer m 0 (now (buf .entry)))) × (now (buf .exit) ≡ putContent m 0 (now (buf .entry))) ⌝ }
 {
     if !allowed(m) {
         return Put::Refused(Message::NOT_ALLOWED);
@@ -56,7 +56,7 @@ fn room_from(at: usize, length: usize) -> usize
 
 // A record at a place: what room is left there is lent on.
 pub fn put_at(buf: &mut [u8], at: usize, m: Message) -> Put
-    ensures { λ r. ⌜ (r ≡ putAnswer m at (now (buf .entry))) × (now (buf .exit) ≡ putContent m at (now (buf .entry))) ⌝ }
+    ensures { λ r. ⌜ (saidPut r ≡ saidPut (putAnswer m at (now (buf .entry)))) × (now (buf .exit) ≡ putContent m at (now (buf .entry))) ⌝ }
 {
     let start = room_from(at, buf.len());
     match put_record(&mut buf[start..], m) {

@@ -7,7 +7,7 @@ ghost use mathlib.Core.Path.{_≡_};
 ghost use Prim.Native.Nat.{_+_, _≤_};
 ghost use lib.Dec.{leb};
 ghost use lib.ListN.{length};
-ghost use Rattle.record.specs.Read.{marked, messageOf, readBytes, readAt};
+ghost use Rattle.record.specs.Read.{marked, messageOf, readBytes, readAt, saidRead};
 
 // The message and the place after its record, or the number of refusal.
 pub enum Read {
@@ -67,7 +67,7 @@ fn judged(b: &[u8], next: usize) -> Read
 
 // What stands at a place, whatever the place is.
 pub fn record_at(s: &[u8], at: usize) -> Read
-    ensures { λ r. ⌜ r ≡ readAt (now (s .entry)) at ⌝ }
+    ensures { λ r. ⌜ saidRead r ≡ saidRead (readAt (now (s .entry)) at) ⌝ }
 {
     if !stands(s.len(), at) {
         return Read::Refused(Message::SHORT);

@@ -2,7 +2,7 @@
 use crate::read::Read;
 use crate::read::record_at;
 ghost use mathlib.Core.Path.{_≡_};
-ghost use Rattle.record.specs.Reader.{stepAt, takenBy, passedFrom};
+ghost use Rattle.record.specs.Reader.{stepAt, takenBy, saidTaken, passedFrom};
 
 pub struct Reader<'a> {
     src: &'a [u8],
@@ -78,7 +78,7 @@ impl<'a> Reader<'a> {
 
     // The next record, or why there is none.
     pub fn take(self) -> Taken<'a>
-        ensures { λ t. ⌜ t ≡ takenBy (self .entry) ⌝ }
+        ensures { λ t. ⌜ saidTaken t ≡ saidTaken (takenBy (self .entry)) ⌝ }
     {
         let step = step_at(self.src, self.at);
         Taken {

@@ -4,3 +4,5 @@ pub mod Asking
 pub mod Stepping
 pub mod Runs
 pub mod Told
+pub mod Frames
+pub mod Sent

@@ -3,9 +3,10 @@ use Prim.Native.Nat.{_+_, _-_}
 use mathlib.Core.Path.{_≡_, sym, ap, _∙_}
 use native.Mathlib.Omega.{arith}
 use lib.ListN.{length}
-use borrow.Rule.Slice.PartMut.{putMid}
+use borrow.Rule.Slice.PartMut.{midOf, putMid}
 use Rattle.record.specs.declared.put.Put.the-variants.{Next}
-use Rattle.record.specs.Put.{putAnswer}
+use Rattle.record.specs.Put.{putAnswer, saidPut}
+use Rattle.record.proofs.Said.{said-put-injective}
 use Rattle.record.proofs.Lent.{accepted, moved, lent-answer, lent-content}
 use borrow.Author.Needs.{needs}
 use Rattle.record.proofs.put.put_at.Statement.{statement}
@@ -33,7 +34,7 @@ next : (c : tie.After-known-told) → Next (c .before .before .before .before .b
 next c =
     let a = c .before .before .before .before .before .before .before .before .before .args in
     let start = c .before .before .before .before .before .before .before .room-from in
-    ap (moved (start .result)) (sym (c .before .used .given .1) ∙ c .before .before .before .before .before .put-record .ensures .0)
+    ap (moved (start .result)) (sym (c .before .used .given .1) ∙ said-put-injective _ (putAnswer (a .m) 0 (midOf (start .result) (length (a .buf .now) - start .result) (a .buf .now))) (c .before .before .before .before .before .put-record .ensures .0))
     ∙ lent-answer (a .m) (a .at) (a .buf .now) (start .result) (start .ensures)
 
 add-t13 : tie.Need-add-t13
@@ -52,7 +53,7 @@ returns : tie.Need-returns
 returns c =
     let a = c .before .before .before .before .before .before .before .before .before .args in
     let start = c .before .before .before .before .before .before .before .room-from in (
-      next c,
+      ap saidPut (next c),
       ap (putMid (start .result) (length (a .buf .now) - start .result) (a .buf .now)) (c .before .before .before .before .before .put-record .ensures .1)
           ∙ lent-content (a .m) (a .at) (a .buf .now) (start .result) (start .ensures),
     )
@@ -64,8 +65,9 @@ returns-2 : tie.Need-returns-2
 returns-2 c =
     let a = c .before .before .before .before .before .before .before .before .before .args in
     let start = c .before .before .before .before .before .before .before .room-from in (
-      ap (moved (start .result)) (sym (c .before .refusal .given .1) ∙ c .before .before .before .before .before .put-record .ensures .0)
-          ∙ lent-answer (a .m) (a .at) (a .buf .now) (start .result) (start .ensures),
+      ap saidPut
+          (ap (moved (start .result)) (sym (c .before .refusal .given .1) ∙ said-put-injective _ (putAnswer (a .m) 0 (midOf (start .result) (length (a .buf .now) - start .result) (a .buf .now))) (c .before .before .before .before .before .put-record .ensures .0))
+          ∙ lent-answer (a .m) (a .at) (a .buf .now) (start .result) (start .ensures)),
       ap (putMid (start .result) (length (a .buf .now) - start .result) (a .buf .now)) (c .before .before .before .before .before .put-record .ensures .1)
           ∙ lent-content (a .m) (a .at) (a .buf .now) (start .result) (start .ensures),
     )

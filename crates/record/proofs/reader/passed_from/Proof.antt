@@ -5,7 +5,10 @@ use native.Mathlib.Numerals.{add-one}
 use native.Mathlib.Omega.{arith}
 use borrow.Author.Needs.{needs}
 use lib.ListN.{length}
+use Rattle.record.specs.declared.read.Read.the-variants.{Record}
+use Rattle.record.specs.Read.{readAt}
 use Rattle.record.specs.Reader.{passing}
+use Rattle.record.proofs.Said.{said-read-injective}
 use Rattle.record.proofs.Passing.{lies, passes, stops}
 use Rattle.record.proofs.reader.passed_from.Statement.{statement}
 use Rattle.record.proofs.reader.passed_from.Tie as tie
@@ -38,11 +41,11 @@ returns : tie.Need-returns Inv-loop μ-loop
 returns c =
     let s = c .before .before .before .before .before .before .args .s .now in
     let l = c .before .before .before .before .loop in
-    let e = sym (c .before .before .before .record-at .ensures) ∙ c .before .refusal .given .1 in
+    let e = sym (said-read-injective _ _ (c .before .before .before .record-at .ensures)) ∙ c .before .refusal .given .1 in
     sym (l .inv .2 ∙ stops (length s - l .count) (l .count) s (l .next) _ e)
 
 read : (c : tie.After-known-told Inv-loop μ-loop) → (c .before .before .before .before .loop .next + 11 ≤ length (c .before .before .before .before .before .before .args .s .now)) × (c .before .place .given .0 .1 .0 ≡ c .before .before .before .before .loop .next + 11)
-read c = lies (c .before .before .before .before .before .before .args .s .now) (c .before .before .before .before .loop .next) (c .before .place .given .0 .0) _ (sym (c .before .before .before .record-at .ensures) ∙ c .before .place .given .1)
+read c = lies (c .before .before .before .before .before .before .args .s .now) (c .before .before .before .before .loop .next) (c .before .place .given .0 .0) _ (sym (said-read-injective _ _ (c .before .before .before .record-at .ensures)) ∙ c .before .place .given .1)
 
 add-count : tie.Need-add-count Inv-loop μ-loop
 add-count c = let h = read c in omega arith
@@ -56,7 +59,7 @@ loop-again c =
     let s = c .before .before .before .before .before .before .args .s .now in
     let l = c .before .before .before .before .loop in
     let place = c .before .place .given .0 .1 .0 in
-    let e = sym (c .before .before .before .record-at .ensures) ∙ c .before .place .given .1 in
+    let e : readAt s (l .next) ≡ Record (c .before .place .given .0 .0) place = sym (said-read-injective _ _ (c .before .before .before .record-at .ensures)) ∙ c .before .place .given .1 in
     let left : length s - l .count ≡ suc (length s - (l .count + 1)) = omega arith in (
       omega arith,
       omega arith,

@@ -9,6 +9,8 @@ use Rattle.record.specs.declared.message.Message.{Message}
 use Rattle.record.specs.declared.put.Put.the-variants.{Next, Refused}
 use Rattle.record.specs.Put.{putAnswer, putContent}
 use Rattle.record.specs.Run.{runAnswer, runContent}
+use Rattle.timing.specs.Limits.{mostStations}
+use Rattle.record.proofs.Said.{said-put-injective}
 use Rattle.record.proofs.Turns.{mapped-length, all-meant, here, go-answer, go-content, stop-answer, stop-content, end-answer, end-content}
 use Rattle.record.proofs.run.put_run.Statement.{statement}
 use Rattle.record.proofs.run.put_run.Tie as tie
@@ -19,7 +21,7 @@ none = record { kind = 0; station = 0; number = 0; profile = 0; mode = 0; detail
 abbrev Inv-loop : tie.InvT-loop
 Inv-loop buf₀ at messages count next₀ i₀ buf next i =
     (i ≤ count)
-    × (length messages ≡ 17)
+    × (length messages ≡ mostStations + 1)
     × (length buf ≡ length buf₀)
     × (runAnswer 0 (take count messages) at buf₀ ≡ runAnswer i (drop i (take count messages)) next buf)
     × (runContent (take count messages) at buf₀ ≡ runContent (drop i (take count messages)) next buf)
@@ -60,7 +62,7 @@ returns c =
     let ms = take (n .result) (a .run .messages) in
     let m = getD (a .run .messages) (l .i) none in
     let at-i = here (a .run .messages) (n .result) (l .i) none (omega arith) (omega arith) in
-    let e : putAnswer m (l .next) (l .buf) ≡ Refused (c .before .refusal .given .0 .0) = sym (p .ensures .0) ∙ c .before .refusal .given .1 in
+    let e : putAnswer m (l .next) (l .buf) ≡ Refused (c .before .refusal .given .0 .0) = sym (said-put-injective _ _ (p .ensures .0)) ∙ c .before .refusal .given .1 in
     let all = all-meant (n .result) (a .run .count) (a .run .messages) (omega arith) in
     let same : putContent m (l .next) (l .buf) ≡ l .buf = simp e in (
       sym (stop-answer ms (l .i) m (l .next) (l .buf) at-i _ e)
@@ -88,7 +90,7 @@ loop-again c =
     let ms = take (n .result) (a .run .messages) in
     let m = getD (a .run .messages) (l .i) none in
     let at-i = here (a .run .messages) (n .result) (l .i) none (omega arith) (omega arith) in
-    let e : putAnswer m (l .next) (l .buf) ≡ Next (c .before .place .given .0 .0) = sym (p .ensures .0) ∙ c .before .place .given .1 in (
+    let e : putAnswer m (l .next) (l .buf) ≡ Next (c .before .place .given .0 .0) = sym (said-put-injective _ _ (p .ensures .0)) ∙ c .before .place .given .1 in (
       omega arith,
       l .inv .1,
       p .kept .0 ∙ l .inv .2,

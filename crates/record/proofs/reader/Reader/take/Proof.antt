@@ -41,7 +41,7 @@ use denote.Triple.Table.{entered, cited}
 use denote.Triple.Walked.{says, Stays, stay-none, walkOf, goes-none, Walks, ends-at, walked, walk-meets}
 use denote.Exit.{yes}
 use denote.Triple.Clauses.{ensured, lasts}
-use Rattle.record.specs.Reader.{stepAt}
+use Rattle.record.specs.Reader.{stepAt, saidTaken}
 use Rattle.record.specs.declared.reader.Step.{Step}
 use Rattle.record.specs.declared.reader.Taken.{Taken}
 use Rattle.record.specs.declared.reader.Reader.{Reader}
@@ -132,7 +132,7 @@ module _ {M : Type 1} (𝓤 : URA M) (H : Heap 𝓤) (A : Atoms 𝓤) (W : Given
   exits : (r : Step) → r ≡ found → Is E.the-row (r .read) (ev r ∷ []) → r .at < 2 ^ 64 → ent 𝓤 (⋆ 𝓤 H A ((‵ (flft κ q) ⊛ ‵ ftrue) ∷ ‵ Own ∷ [])) (Post (out r))
   exits r e is ok =
       qed W ((‵ (flft κ q) ⊛ ‵ ftrue) ∷ ‵ Own ∷ []) ∵
-      suffices ! _ (ends-at 𝓤 H A take.ended stayed (take.clauses 𝓤 H A mem run) W (((κ, tt), (q, tt), tt, (d, tt), (mach ∷ [], tt)), tt) (out r) (made r) (tt, tt) (tt, tt)) $ says ! (ap made e) $
+      suffices ! _ (ends-at 𝓤 H A take.ended stayed (take.clauses 𝓤 H A mem run) W (((κ, tt), (q, tt), tt, (d, tt), (mach ∷ [], tt)), tt) (out r) (made r) (tt, tt) (tt, tt)) $ says ! (ap (λ (s : Step). saidTaken (made s)) e) $
       frame ! $ use1 W (‵ Own ⊛ ‵ Own) (LL.copy (held.D 𝓤 H A W κ d) (T′.the-copy (namedLft 1 0 tt (κ, tt))) 𝓤 H A W .twice d (mach ∷ [])) $ split ! $ nothing ! $ move ! (1 ∷ 0 ∷ []) $ fjoin ! $ frame ! $
       -- [what the reader owns]: with the step's place it is what the reader afterwards owns, and with what was read what the result owns
       owned ! usize (Is usize) (uint-makes 𝓤 H A W w64) (r .at) _ (refl, ok) $ move ! (1 ∷ 0 ∷ []) $ use2 W (‵ (B (κ, tt) .own (back r) (tv r ∷ []))) (own-put 𝓤 H A W (held.D 𝓤 H A W κ d) (held.L 𝓤 H A W κ d) 1 (held.vd 𝓤 H A W κ d) (r .at) mach) $

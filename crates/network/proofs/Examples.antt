@@ -1,0 +1,221 @@
+-- The examples, computed.
+use mathlib.Core.Path.{_≡_, refl, sym, subst}
+use mathlib.Core.List.{List, [], _∷_, _++_, List·Memᴰ, List·Memᴰ·cases-cons, List·Memᴰ·not-nil, List·Memᴰ·head, List·Memᴰ·tail}
+use mathlib.Core.Logic.{_⊎_, inl, inr}
+use Prim.Native.Nat.{ℕ, _≤_}
+use lib.Dec.{lit<, lit≤}
+use Rattle.timing.specs.Settings.{wait}
+use Rattle.timing.specs.Settings as settings
+use Rattle.timing.specs.Phase.{phaseAfter}
+use Rattle.server.specs.State.{newServer}
+use Rattle.server.specs.Sets.{wiped, conflicts}
+use Rattle.server.specs.Ask.{askRule}
+use Rattle.server.specs.Hear as hear
+use Rattle.server.specs.Tick as tick
+use Rattle.server.specs.Refusal as server-refusal
+use Rattle.server.specs.Step as server
+use Rattle.server.specs.Border as server-border
+use Rattle.server.specs.Border.{sentFor}
+use Rattle.server.specs.Step.{step as serverStep}
+use Rattle.server.specs.declared.event.Event.the-variants as server-event
+use Rattle.server.specs.declared.event.Request.the-variants as server-request
+use Rattle.server.specs.declared.event.Answer.{Answer}
+use Rattle.server.specs.declared.event.Answer.the-variants as says
+use Rattle.record.specs.declared.message.Message.{Message}
+use Rattle.modes.specs.Modes.{mode, R}
+use Rattle.station.specs.declared.event.Request.the-variants.{Ask}
+use Rattle.station.specs.declared.event.Event.the-variants.{Send}
+use Rattle.station.specs.Hold.{noHolds}
+use Rattle.station.specs.Stage.{phaseAt}
+use Rattle.station.specs.Refusal as room-refusal
+use Rattle.station.specs.Rules as rules
+use Rattle.station.specs.Effect as effect
+use Rattle.station.specs.Station as room
+use Rattle.station.specs.Border as room-border
+use Rattle.modes.specs.Modes as modes
+use Rattle.network.specs.Picture.{Happening, gets, does, Moment, worldAtFirst, next, run}
+use Rattle.network.specs.Premises.{Happens, Permitted, begins, goes-on}
+use Rattle.network.proofs.Together.{Together, at-together, later, together}
+use Rattle.network.specs.Examples.{small, at, after, waits, demand, greeted, holding, renewed, Renewed, demanded, released, passed-on, PassedOn, timing-out, taken-over, TakenOver, closing, written, Written}
+
+-- names all that a step computes with, so that one word opens it
+engines : ℕ
+unfolding run next worldAtFirst wait newServer wiped conflicts askRule phaseAfter noHolds phaseAt settings.lengthsGood settings.rateGood settings.countsGood hear.heed hear.welcome hear.byStatus hear.ifNew hear.hear tick.free tick.startedSet tick.start server-refusal.refusal server.message server.tick server.step server-border.eventOf server-border.sentFor room-refusal.refusal room-refusal.phaseRefusal room-refusal.useRefusal rules.sendRefusal rules.beginRefusal rules.editRefusal rules.endRefusal rules.writeOutRefusal rules.demandRefusal rules.fits rules.ackForbids rules.nackForbids effect.advised room.newStation room.endedIf room.after room.ifAllowed room.ifGood room.step room.phaseAsked room.mayUse room-border.eventOf room-border.messageOf room-border.sentBy modes.isMode modes.goesWith modes.covers modes.join modes.writes
+engines = 0
+
+record Told (t : ℕ) (h : List Moment) : Type 0 where
+  permitted : Permitted small (wait small) h
+  each : (m : Moment) → List·Memᴰ m h → Together t m
+
+start : Told 0 []
+start = record { permitted = begins; each = λ m a. absurd (List·Memᴰ·not-nil a) }
+
+on : {t : ℕ} {h : List Moment} (t′ : ℕ) → t ≤ t′ → (e : Happening) → Happens small (after h) e → Told t h → Told t′ (at t′ e ∷ h)
+on {t} {h} t′ b e can T =
+    record {
+      permitted = goes-on (λ old i a here. together small (lit≤ tt) t′ old e i (later b old (T .each old a)) here) can (T .permitted);
+      each = λ n a. cases n (List·Memᴰ·cases-cons a);
+    }
+  where
+    cases : (n : Moment) → (n ≡ at t′ e) ⊎ List·Memᴰ n h → Together t′ n
+    cases n (inl q) = subst (Together t′) (sym q) (at-together t′ e)
+    cases n (inr a) = later b n (T .each n a)
+
+told₀ : Told 0 greeted
+unfolding engines
+told₀ =
+    on 0 (lit≤ tt) _ (lit< tt, List·Memᴰ·head refl)
+    (on 0 (lit≤ tt) _ (List·Memᴰ·head refl)
+    (on 0 (lit≤ tt) _ (lit< tt, refl)
+    start))
+
+told₁ : Told 6 renewed
+unfolding engines
+told₁ =
+    on 6 (lit≤ tt) _ (lit< tt, List·Memᴰ·head refl)
+    (on 5 (lit≤ tt) _ (List·Memᴰ·head refl)
+    (on 5 (lit≤ tt) _ (lit< tt, refl)
+    told₀))
+
+pub lease-renewed : Renewed
+unfolding engines
+lease-renewed =
+    record { permitted = told₁ .permitted; first-start = refl; out-without = refl; new-start = refl; lasts = refl }
+
+told-holding : Told 0 holding
+unfolding engines
+told-holding =
+    on 0 (lit≤ tt) _ (lit< tt, List·Memᴰ·head refl)
+    (on 0 (lit≤ tt) _ (List·Memᴰ·head refl)
+    (on 0 (lit≤ tt) _ (lit< tt, refl)
+    (on 0 (lit≤ tt) _ (lit< tt, List·Memᴰ·head refl)
+    (on 0 (lit≤ tt) _ (List·Memᴰ·head refl)
+    (on 0 (lit≤ tt) _ (lit< tt, refl)
+    told₀)))))
+
+told₂ : Told 1 demanded
+unfolding engines
+told₂ =
+    on 1 (lit≤ tt) _ (lit< tt, List·Memᴰ·head refl)
+    (on 1 (lit≤ tt) _ (List·Memᴰ·head refl)
+    (on 1 (lit≤ tt) _ (lit< tt, refl)
+    told-holding))
+
+-- what the server says to station 1: to wait; and to station 0: the demand
+told-to-wait : sentFor 1 2 (says.Wait 0 (mode R) 1 1) ≡ waits 1 2 ∷ demand 0 R ∷ []
+unfolding sentFor
+told-to-wait = refl
+
+abbrev asking : List Moment
+asking = at 1 (does 1 (Send (Ask 0 (mode R)))) ∷ holding
+
+answered : serverStep (wait small) (after asking .server) 1 (server-event.Message 1 2 (server-request.Ask 0 (mode R))) .answer ≡ says.Wait 0 (mode R) 1 1
+unfolding engines
+answered = refl
+
+demand-sent : List·Memᴰ (demand 0 R) (after demanded .down)
+unfolding run next server-border.eventOf room-border.eventOf
+demand-sent =
+    subst (λ (a : Answer). List·Memᴰ (demand 0 R) (sentFor 1 2 a ++ after asking .down)) (sym answered)
+    (subst (λ (l : List Message). List·Memᴰ (demand 0 R) (l ++ after asking .down)) (sym told-to-wait) (List·Memᴰ·tail (List·Memᴰ·head refl)))
+
+told-demanded : Told 2 (at 2 (gets 0 (demand 0 R)) ∷ demanded)
+told-demanded = on 2 (lit≤ tt) _ (lit< tt, demand-sent) told₂
+
+told-released : Told 3 released
+unfolding engines
+told-released =
+    on 3 (lit≤ tt) _ (lit< tt, List·Memᴰ·head refl)
+    (on 3 (lit≤ tt) _ (List·Memᴰ·head refl)
+    (on 3 (lit≤ tt) _ (lit< tt, refl)
+    told-demanded))
+
+told-passed : Told 4 passed-on
+unfolding engines
+told-passed =
+    on 4 (lit≤ tt) _ (lit< tt, List·Memᴰ·head refl)
+    (on 4 (lit≤ tt) _ (List·Memᴰ·head refl)
+    (on 4 (lit≤ tt) _ (lit< tt, refl)
+    told-released))
+
+pub demand-answered : PassedOn
+unfolding engines
+demand-answered =
+    record {
+      permitted = told-passed .permitted;
+      held = refl;
+      advised = refl;
+      given-up = refl;
+      other-uses = refl;
+      in-mode = refl;
+    }
+
+told-timing : Told 8 timing-out
+unfolding engines
+told-timing =
+    on 8 (lit≤ tt) _ tt
+    (on 3 (lit≤ tt) _ (lit< tt, List·Memᴰ·head refl)
+    (on 3 (lit≤ tt) _ (List·Memᴰ·head refl)
+    (on 3 (lit≤ tt) _ (lit< tt, refl)
+    told-holding)))
+
+told-taken : Told 20 taken-over
+unfolding engines
+told-taken =
+    on 20 (lit≤ tt) _ (lit< tt, List·Memᴰ·head refl)
+    (on 20 (lit≤ tt) _ (List·Memᴰ·head refl)
+    (on 20 (lit≤ tt) _ (lit< tt, refl)
+    (on 20 (lit≤ tt) _ (lit< tt, List·Memᴰ·head refl)
+    (on 20 (lit≤ tt) _ (List·Memᴰ·head refl)
+    (on 20 (lit≤ tt) _ (lit< tt, refl)
+    (on 20 (lit≤ tt) _ tt
+    (on 19 (lit≤ tt) _ tt
+    told-timing)))))))
+
+pub silent-holder-freed : TakenOver
+unfolding engines
+silent-holder-freed =
+    record {
+      permitted = told-taken .permitted;
+      held = refl;
+      times-out = refl;
+      still-held = refl;
+      unknown = refl;
+      gone = refl;
+      other-uses = refl;
+      in-mode = refl;
+      no-longer = refl;
+    }
+
+told-closing : Told 7 closing
+unfolding engines
+told-closing =
+    on 7 (lit≤ tt) _ (lit< tt, List·Memᴰ·head refl)
+    (on 6 (lit≤ tt) _ (List·Memᴰ·head refl)
+    (on 6 (lit≤ tt) _ tt
+    (on 5 (lit≤ tt) _ (lit< tt, refl)
+    (on 1 (lit≤ tt) _ (List·Memᴰ·head refl)
+    (on 1 (lit≤ tt) _ (lit< tt, refl)
+    (on 1 (lit≤ tt) _ (lit< tt, refl)
+    (on 1 (lit≤ tt) _ (lit< tt, refl)
+    told-holding)))))))
+
+told-written : Told 8 written
+unfolding engines
+told-written =
+    on 8 (lit≤ tt) _ (lit< tt, refl)
+    (on 7 (lit≤ tt) _ (lit< tt, refl)
+    told-closing)
+
+pub nacked-room-wrote-out : Written
+unfolding engines
+nacked-room-wrote-out =
+    record {
+      permitted = told-written .permitted;
+      closes = refl;
+      unwritten = refl;
+      lost-without = refl;
+      still-held = refl;
+      all-written = refl;
+      none-lost = refl;
+    }

@@ -1,0 +1,13 @@
+pub mod Pair
+pub mod Sound
+pub mod Hearing
+pub mod Ticking
+pub mod Rooms
+pub mod Safety
+pub mod Uses
+pub mod RoomLaws
+pub mod ServerLaws
+pub mod Story
+pub mod Together
+pub mod OneTickLess
+pub mod Examples

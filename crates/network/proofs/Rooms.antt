@@ -1,0 +1,273 @@
+-- A room keeps the invariant whatever happens there.
+-- Assumes nothing.
+use mathlib.Core.Path.{_≡_, refl, sym, subst, ap, _∙_}
+use mathlib.Core.Bool.{Bool, true, false, cond, false≢true}
+use mathlib.Core.List.{List, _∷_, _++_, List·Memᴰ, List·Memᴰ·append-cases, List·Memᴰ·cases-cons}
+use mathlib.Core.Logic.{_⊎_, inl, inr}
+use Prim.Native.Nat.{ℕ, zero, suc, _+_, _<_, zero-le}
+use native.Mathlib.Nat.{le-refl}
+use native.Mathlib.Omega.{arith}
+use lib.Dec.{eqb}
+use lib.ListN.{length, getD, length-set}
+use borrow.Author.Tests.{eq-eqb, ne-eqb}
+use Rattle.record.specs.declared.message.Message.{Message}
+use Rattle.modes.specs.Modes.{mode, covers}
+use Rattle.modes.specs.declared.Mode.{Mode}
+use Rattle.modes.proofs.Laws.{covers-self}
+use Rattle.timing.specs.declared.settings.Settings.{Settings}
+use Rattle.timing.specs.Settings.{lease, inRange}
+use Rattle.timing.proofs.Ranges.{ranges}
+use Rattle.station.specs.declared.station.Station.{Station}
+use Rattle.station.specs.declared.station.Stepped.{Stepped}
+use Rattle.station.specs.declared.hold.Hold.{Hold}
+use Rattle.station.specs.declared.event.Request.{Request}
+use Rattle.station.specs.declared.event.Request.the-variants.{Hello}
+use Rattle.station.specs.declared.event.Waiting.{Waiting}
+use Rattle.station.specs.declared.event.Waiting.the-variants.{Sent}
+use Rattle.station.specs.declared.event.Ack.{Ack}
+use Rattle.station.specs.declared.event.Ack.the-variants.{Done, Granted, Wait, InUse}
+use Rattle.station.specs.declared.event.Event.{Event}
+use Rattle.station.specs.declared.event.Event.the-variants.{Send, Begin, Edit, End, WriteOut, Restart, Ack as Acked, Nack as Nacked, Demand}
+use Rattle.station.specs.declared.event.Answer.the-variants as answer
+use Rattle.station.specs.Stage.{isOut}
+use Rattle.station.specs.Hold.{noHold, changed, withUnwritten}
+use Rattle.station.specs.Refusal.{refusal, ackRefusal, namedRefusal, stationOf}
+use Rattle.station.specs.Rules.{ackProfile}
+use Rattle.station.specs.Effect.{sentAt, holdsAcked, begun, ended, holdsAfter, lastAfter, answerTo}
+use Rattle.station.specs.Station.{modeOf, holdAt, stageOf, leaseOf, gone, isOver, endedIf, expire, forbids, after, ifAllowed, ifGood, step}
+use Rattle.station.specs.Border.{messageOf, sentBy, ackAs, meantAs, eventOf}
+use Rattle.station.proofs.Seat.{modeIn, no-modes, no-holds-length, modes-kept, sent-modes, sent-length, acked-length, acked-modes, nacked-out, message-number, is-hello, given-up, sent-station, hello-out, Answers, answers, good-station, good-named, granted-in}
+use Rattle.network.specs.Picture.{World, Moment, withRoom, getting}
+use Rattle.network.specs.Premises.{isOwn}
+use Rattle.network.proofs.Pair.{Covered, Fits, Inv, later, left, dropped, posted, acked}
+use Rattle.network.proofs.Sound.{slotOf, seatOf, sentUp, ackDown, past, Own, Sound, split}
+
+-- what a message that comes as an ACK says
+abbrev pub Says : Message → Ack → Type 0
+Says m Done = Unit {0}
+Says m (Granted p x) = (m .detail ≡ 1) × (m .profile ≡ p) × (m .mode ≡ x .0)
+Says m (Wait p) = Unit {0}
+Says m (InUse p) = Unit {0}
+
+-- an event that is a message was sent
+abbrev pub Came : List Message → Event → Type 0
+Came l (Send q) = Unit {0}
+Came l (Begin p m) = Unit {0}
+Came l (Edit p) = Unit {0}
+Came l (End p) = Unit {0}
+Came l (WriteOut p) = Unit {0}
+Came l Restart = Unit {0}
+Came l (Acked i k a) = (m : Message) × List·Memᴰ m l × (m .station ≡ i) × (m .kind ≡ 6) × (m .number ≡ k) × Says m a
+Came l (Nacked i k d) = Unit {0}
+Came l (Demand i p m) = Unit {0}
+
+module _ (z : Settings) (good : inRange z ≡ true) (w : World) (h : List Moment) (cs : ℕ → ℕ) (I : Sound z w h cs) (i : ℕ) (here : i < z .stations) where
+  -- what is to be shown of room i
+  pub record Fit (r : Station) (U : List Message) : Type 0 where
+    pub inv : Inv (lease z) (slotOf (w .server) i) (seatOf r) (sentUp U i) (ackDown (w .down) i) (past h i) (cs i)
+    pub own : Own z i r
+
+  moved : (x : Stepped) → Fit (x .station) (sentBy i (x .answer) ++ w .up) → Sound z (withRoom w i x) h cs
+  moved x F = record {
+    pair = λ j b. split j i (λ e. mine j e) (λ e. other j b e);
+    own = λ j b. split j i (λ e. mine-own j e) (λ e. other-own j b e);
+    kept = I .kept;
+  }
+    where
+      pairOf : ℕ → Bool → Type 0
+      pairOf j b = Inv (lease z) (slotOf (w .server) j) (seatOf (cond b (x .station) (w .rooms j))) (sentUp (sentBy i (x .answer) ++ w .up) j) (ackDown (w .down) j) (past h j) (cs j)
+
+      mine : (j : ℕ) → j ≡ i → pairOf j (eqb j i)
+      mine j e = subst (λ (b : Bool). pairOf j b) (sym (eq-eqb j i e)) (rw e (F .inv))
+
+      mine-own : (j : ℕ) → j ≡ i → Own z j (cond (eqb j i) (x .station) (w .rooms j))
+      mine-own j e = subst (λ (b : Bool). Own z j (cond b (x .station) (w .rooms j))) (sym (eq-eqb j i e)) (rw e (F .own))
+
+      other : (j : ℕ) → j < z .stations → (j ≡ i → ⊥) → pairOf j (eqb j i)
+      other j b e = subst (λ (b : Bool). pairOf j b) (sym (ne-eqb j i e))
+          (later (lease z) (I .pair j b) (le-refl (cs j)) (λ τ y q. q) (λ m u. by-place m u (List·Memᴰ·append-cases (sentBy i (x .answer)) (u .0))) (λ m d. d))
+        where
+          by-place : (m : Message) → sentUp (sentBy i (x .answer) ++ w .up) j m → List·Memᴰ m (sentBy i (x .answer)) ⊎ List·Memᴰ m (w .up) → sentUp (w .up) j m
+          by-place m u (inl q) = absurd (e (sym (u .1) ∙ sent-station i (x .answer) m q))
+          by-place m u (inr q) = (q, u .1)
+
+      other-own : (j : ℕ) → j < z .stations → (j ≡ i → ⊥) → Own z j (cond (eqb j i) (x .station) (w .rooms j))
+      other-own j b e = subst (λ (b : Bool). Own z j (cond b (x .station) (w .rooms j))) (sym (ne-eqb j i e)) (I .own j b)
+
+  -- the lease that has run out ends first; a restart goes out too
+  goes : (r : Station) (now : ℕ) → Fit r (w .up) → Fit (gone r now) (w .up)
+  goes r now F = record {
+    inv = left (lease z) (F .inv) refl zero-le refl refl (λ p. no-modes p);
+    own = record { settings = F .own .settings; number = F .own .number; holds = no-holds-length };
+  }
+
+  expired : (r : Station) (now : ℕ) → Fit r (w .up) → (b : Bool) → Fit (endedIf b r now) (w .up) × (endedIf b r now .reading ≡ now)
+  unfolding endedIf
+  expired r now F true = (goes r now F, refl)
+  expired r now F false = (record { inv = F .inv; own = record { settings = F .own .settings; number = F .own .number; holds = F .own .holds } }, refl)
+
+  module _ (x : Station) (F : Fit x (w .up)) (reads : x .reading ≡ cs i) where
+    own-after : (e : Event) → length (holdsAfter (x .holds) e) ≡ 64 → Own z i (after x e)
+    unfolding after
+    own-after e n = record { settings = F .own .settings; number = F .own .number; holds = n }
+
+    -- Send
+    on-send : (q : Request) → forbids x (Send q) ≡ 0 → Fit (after x (Send q)) (sentBy i (answer.Sent (x .last + 1) q) ++ w .up)
+    unfolding after sentBy
+    on-send q e = record {
+      inv = posted (lease z) (F .inv) q (messageOf i (x .last + 1) q) refl refl refl (ap (λ (n : ℕ). Sent q n) reads)
+          (λ p. sent-modes q (x .holds) p)
+          (message-number i (x .last + 1) q)
+          (λ k. given-up i (x .last + 1) q (x .holds) k)
+          (λ k. hello-out (stageOf x) (holdAt x 0) (x .last) (hello (is-hello i (x .last + 1) q k)))
+          (λ m u. by-place m u (List·Memᴰ·cases-cons (u .0)));
+      own = own-after (Send q) (sent-length q (x .holds) ∙ F .own .holds);
+    }
+      where
+        hello : q ≡ Hello → forbids x (Send Hello) ≡ 0
+        hello k = ap (λ (r : Request). forbids x (Send r)) (sym k) ∙ e
+
+        by-place : (m : Message) → sentUp (messageOf i (x .last + 1) q ∷ w .up) i m → (m ≡ messageOf i (x .last + 1) q) ⊎ List·Memᴰ m (w .up) →
+            sentUp (w .up) i m ⊎ (m ≡ messageOf i (x .last + 1) q)
+        by-place m u (inl k) = inr k
+        by-place m u (inr k) = inl (k, u .1)
+
+    -- Ack
+    on-ack : (j k : ℕ) (a : Ack) → j ≡ i → Came (w .down) (Acked j k a) → ackRefusal (z .profiles) a ≡ 0 → forbids x (Acked j k a) ≡ 0 → Fit (after x (Acked j k a)) (w .up)
+    unfolding after
+    on-ack j k a to c named e = record {
+      inv = acked (lease z) (F .inv) (A .request) (A .sent) (c .0) (A .waits) soon (c .1, c .2 ∙ to, c .3) (c .4 ∙ A .number)
+          refl starts refl refl (λ old fit p. covered old fit p (acked-modes a (x .holds) p));
+      own = own-after (Acked j k a) (acked-length a (x .holds) ∙ F .own .holds);
+    }
+      where
+        A : Answers (x .waiting) (leaseOf x) (x .reading) (x .last) k (modeOf x (ackProfile a)) a
+        A = answers (x .waiting) (leaseOf x) (x .reading) (x .last) k (modeOf x (ackProfile a)) a e
+
+        soon : cs i < A .sent + lease z
+        soon =
+            let s = A .soon in
+            let l : leaseOf x ≡ lease z = ap (λ (y : Settings). lease y) (F .own .settings) in
+            omega (arith, reads)
+
+        starts : after x (Acked j k a) .start ≡ A .sent
+        starts = ap (λ (v : Waiting). sentAt v) (A .waits)
+
+        covered : Covered (λ p. slotOf (w .server) i .mode p) (λ p. modeOf x p) → Fits (c .0) (slotOf (w .server) i .mode) → (p : ℕ) →
+            (modeIn (holdsAcked (x .holds) a) p ≡ modeIn (x .holds) p) ⊎ ((m : Mode) × (a ≡ Granted p m) × (p < length (x .holds) → modeIn (holdsAcked (x .holds) a) p ≡ m .0)) →
+            covers (slotOf (w .server) i .mode p) (modeIn (holdsAcked (x .holds) a) p) ≡ true
+        covered old fit p (inl q) = ap (λ (n : ℕ). covers (slotOf (w .server) i .mode p) n) q ∙ old p
+        covered old fit p (inr q) =
+            let says : Says (c .0) (Granted p (q .0)) = subst (λ (b : Ack). Says (c .0) b) (q .1) (c .5) in
+            let inside : p < z .profiles = granted-in (z .profiles) p (q .0) (ap (λ (b : Ack). ackRefusal (z .profiles) b) (sym (q .1)) ∙ named) in
+            let most = ranges z good .counts .profiles-most in
+            let held : modeIn (holdsAcked (x .holds) a) p ≡ q .0 .0 = q .2 (omega (arith, F .own .holds)) in
+            let has : slotOf (w .server) i .mode p ≡ q .0 .0 = ap (λ (n : ℕ). slotOf (w .server) i .mode n) (sym (says .1)) ∙ fit (says .0) ∙ says .2 in
+            ap (λ (n : ℕ). covers n (modeIn (holdsAcked (x .holds) a) p)) has ∙ ap (λ (n : ℕ). covers (q .0 .0) n) held ∙ covers-self (q .0 .0)
+
+    on-nack : (j k d : ℕ) → Fit (after x (Nacked j k d)) (w .up)
+    unfolding after
+    on-nack j k d = record {
+      inv = dropped (lease z) (F .inv) (nacked-out (x .standing)) refl refl refl refl;
+      own = own-after (Nacked j k d) (F .own .holds);
+    }
+
+    -- operations and flags change nothing that is seen
+    unseen : (f : Hold → Hold) → ((y : Hold) → f y .mode ≡ y .mode) → (p : ℕ) →
+        Inv (lease z) (slotOf (w .server) i)
+        (record { out = isOut (x .standing); start = x .start; last = x .last; waiting = x .waiting; mode = λ q. modeIn (changed f p (x .holds)) q })
+        (sentUp (w .up) i) (ackDown (w .down) i) (past h i) (cs i)
+    unseen f e p =
+        subst (λ (g : ℕ → ℕ). Inv (lease z) (slotOf (w .server) i)
+        (record { out = isOut (x .standing); start = x .start; last = x .last; waiting = x .waiting; mode = g })
+        (sentUp (w .up) i) (ackDown (w .down) i) (past h i) (cs i))
+        (sym same) (F .inv)
+      where
+        same : _≡_ {A = ℕ → ℕ} (λ q. modeIn (changed f p (x .holds)) q) (λ q. modeIn (x .holds) q)
+        same = λ j q. modes-kept f e (x .holds) p q j
+
+    wide : (f : Hold → Hold) (p : ℕ) → length (changed f p (x .holds)) ≡ 64
+    wide f p = length-set (x .holds) p (f (getD (x .holds) p noHold)) ∙ F .own .holds
+
+    on-allowed : (e : Event) → Came (w .down) e → namedRefusal (z .profiles) e ≡ 0 → stationOf i e ≡ i → forbids x e ≡ 0 →
+        Fit (after x e) (sentBy i (answerTo (lastAfter (x .last) e) (x .holds) e) ++ w .up)
+    unfolding after sentBy
+    on-allowed (Send q) c named to e = on-send q e
+    on-allowed (Begin p m) c named to e = record { inv = unseen begun (λ y. refl) p; own = own-after (Begin p m) (wide begun p) }
+    on-allowed (Edit p) c named to e = record { inv = unseen (withUnwritten true) (λ y. refl) p; own = own-after (Edit p) (wide (withUnwritten true) p) }
+    on-allowed (End p) c named to e = record { inv = unseen ended (λ y. refl) p; own = own-after (End p) (wide ended p) }
+    on-allowed (WriteOut p) c named to e = record { inv = unseen (withUnwritten false) (λ y. refl) p; own = own-after (WriteOut p) (wide (withUnwritten false) p) }
+    on-allowed Restart c named to e = goes x (x .reading) F
+    on-allowed (Acked j k a) c named to e = on-ack j k a to c named e
+    on-allowed (Nacked j k d) c named to e = on-nack j k d
+    on-allowed (Demand j p m) c named to e = record { inv = F .inv; own = own-after (Demand j p m) (F .own .holds) }
+
+    on-forbidden : (e : Event) → Came (w .down) e → namedRefusal (z .profiles) e ≡ 0 → stationOf i e ≡ i → (n : ℕ) → forbids x e ≡ n → (lost count : ℕ) →
+        Fit (ifAllowed n x e lost count .station) (sentBy i (ifAllowed n x e lost count .answer) ++ w .up)
+    unfolding ifAllowed sentBy
+    on-forbidden e c named to zero q lost count = on-allowed e c named to q
+    on-forbidden e c named to (suc n) q lost count = F
+
+  abbrev s : Station
+  s = w .rooms i
+
+  fit : Fit s (w .up)
+  fit = record { inv = I .pair i here; own = I .own i here }
+
+  on-refusal : (e : Event) → Came (w .down) e → (n : ℕ) → refusal (s .settings) (s .number) (s .reading) (cs i) e ≡ n →
+      Fit (ifGood n s (cs i) e .station) (sentBy i (ifGood n s (cs i) e .answer) ++ w .up)
+  unfolding ifGood sentBy
+  on-refusal e c zero q =
+      let own = I .own i here in
+      let fine : refusal z i (s .reading) (cs i) e ≡ 0 =
+      ap (λ (y : Settings). refusal y i (s .reading) (cs i) e) (sym (own .settings))
+      ∙ ap (λ (n : ℕ). refusal (s .settings) n (s .reading) (cs i) e) (sym (own .number)) ∙ q in
+      let E = expired s (cs i) fit (isOver s (cs i)) in
+      on-forbidden (expire s (cs i)) (E .0) (E .1) e c (good-named z i (s .reading) (cs i) e fine) (good-station z i (s .reading) (cs i) e fine)
+      (forbids (expire s (cs i)) e) refl _ _
+  on-refusal e c (suc n) q = fit
+
+  pub event-sound : (e : Event) → Came (w .down) e → Sound z (withRoom w i (step s (cs i) e)) h cs
+  unfolding step
+  event-sound e c =
+      moved (step s (cs i) e) (on-refusal e c (refusal (s .settings) (s .number) (s .reading) (cs i) e) refl)
+
+  -- what the people in a room do
+  own-came : (e : Event) → isOwn e ≡ true → Came (w .down) e
+  own-came (Send q) e = tt
+  own-came (Begin p m) e = tt
+  own-came (Edit p) e = tt
+  own-came (End p) e = tt
+  own-came (WriteOut p) e = tt
+  own-came Restart e = tt
+  own-came (Acked j k a) e = absurd (false≢true e)
+  own-came (Nacked j k d) e = tt
+  own-came (Demand j p m) e = tt
+
+  pub does-sound : (e : Event) → isOwn e ≡ true → Sound z (withRoom w i (step s (cs i) e)) h cs
+  does-sound e o = event-sound e (own-came e o)
+
+  -- a message that comes
+  module _ (m : Message) (sent : List·Memᴰ m (w .down)) where
+    by-detail : m .kind ≡ 6 → (n : ℕ) → m .detail ≡ n → Sound z (getting w i (cs i) (ackAs n m)) h cs
+    by-detail k zero d = event-sound (Acked (m .station) (m .number) Done) (m, sent, refl, k, refl, tt)
+    by-detail k (suc zero) d = event-sound (Acked (m .station) (m .number) (Granted (m .profile) (mode (m .mode)))) (m, sent, refl, k, refl, (d, refl, refl))
+    by-detail k (suc (suc zero)) d = event-sound (Acked (m .station) (m .number) (Wait (m .profile))) (m, sent, refl, k, refl, tt)
+    by-detail k (suc (suc (suc zero))) d = event-sound (Acked (m .station) (m .number) (InUse (m .profile))) (m, sent, refl, k, refl, tt)
+    by-detail k (suc (suc (suc (suc n)))) d = I
+
+    by-kind : (n : ℕ) → m .kind ≡ n → Sound z (getting w i (cs i) (meantAs n m)) h cs
+    by-kind (suc (suc (suc (suc (suc (suc zero)))))) k = by-detail k (m .detail) refl
+    by-kind (suc (suc (suc (suc (suc (suc (suc zero))))))) k = event-sound (Nacked (m .station) (m .number) (m .detail)) tt
+    by-kind (suc (suc (suc (suc (suc (suc (suc (suc zero)))))))) k = event-sound (Demand (m .station) (m .profile) (mode (m .mode))) tt
+    by-kind zero k = I
+    by-kind (suc zero) k = I
+    by-kind (suc (suc zero)) k = I
+    by-kind (suc (suc (suc zero))) k = I
+    by-kind (suc (suc (suc (suc zero)))) k = I
+    by-kind (suc (suc (suc (suc (suc zero))))) k = I
+    by-kind (suc (suc (suc (suc (suc (suc (suc (suc (suc n))))))))) k = I
+
+    pub gets-sound : Sound z (getting w i (cs i) (eventOf m)) h cs
+    unfolding eventOf
+    gets-sound = by-kind (m .kind) refl

@@ -1,0 +1,36 @@
+-- What the server does where nothing is refused.
+use mathlib.Core.Path.{_≡_, ap, _∙_}
+use mathlib.Core.Bool.{Bool, true}
+use Prim.Native.Nat.{ℕ, _<_, _≤_}
+use borrow.Author.Tests.{lt-ltb, le-ltb}
+use Rattle.timing.specs.Limits.{readingLimit}
+use Rattle.timing.specs.declared.settings.Settings.{Settings}
+use Rattle.timing.specs.Settings.{inRange}
+use Rattle.server.specs.declared.server.Server.{Server}
+use Rattle.server.specs.declared.event.Event.{Event}
+use Rattle.server.specs.declared.event.Event.the-variants.{Message, Tick}
+use Rattle.server.specs.declared.event.Request.{Request}
+use Rattle.server.specs.State.{memberAt, profileAt, lastOf, statusOf}
+use Rattle.server.specs.Sets.{liveSet}
+use Rattle.server.specs.Hear.{byStatus, numbered, ifNew, hear}
+use Rattle.server.specs.Refusal.{eventRefusal, refusal}
+use Rattle.server.specs.Step.{profileOf, afterHeard, message, tick, ifGood, step}
+
+module _ (z : Settings) (good : inRange z ≡ true) where
+  pub free : (last now : ℕ) (e : Event) → eventRefusal z e ≡ 0 → now ≤ readingLimit → last ≤ now → refusal z last now e ≡ 0
+  unfolding refusal
+  free last now e named top on = rw (good, named, le-ltb readingLimit now top, le-ltb now last on)
+
+module _ (wait : ℕ) (s : Server) (now : ℕ) where
+  pub ticked : refusal (s .settings) (s .reading) now Tick ≡ 0 → step wait s now Tick ≡ tick wait s now
+  unfolding step
+  ticked free = ap (λ (n : ℕ). ifGood n wait s now Tick) free
+
+  pub heard : (i number : ℕ) (q : Request) → refusal (s .settings) (s .reading) now (Message i number q) ≡ 0 → lastOf s i < number →
+      step wait s now (Message i number q)
+      ≡ afterHeard s now i (profileOf q)
+      (byStatus (statusOf s i) (liveSet (s .members)) now i q (numbered number (memberAt s i)) (profileAt s (profileOf q)))
+  unfolding step message hear ifNew
+  heard i number q free new =
+      ap (λ (n : ℕ). ifGood n wait s now (Message i number q)) free
+      ∙ ap (λ (b : Bool). afterHeard s now i (profileOf q) (ifNew b (liveSet (s .members)) now i number q (memberAt s i) (profileAt s (profileOf q)))) (lt-ltb (lastOf s i) number new)

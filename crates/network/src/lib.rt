@@ -1,0 +1,1 @@
+// Theorems over the engines. It has no code.

@@ -1,0 +1,14 @@
+pub mod Choice
+pub mod Ways
+pub mod Said
+pub mod Steps
+pub mod Frames
+pub mod Shown
+pub mod Heard
+pub mod Sound
+pub mod Outcome
+pub mod Numbers
+pub mod Uses
+pub mod Seat
+pub mod Allowed
+pub mod Meanings

@@ -1,0 +1,53 @@
+-- The station's borders: from a received message to an event, and from what it sends to its message.
+use mathlib.Core.List.{List, [], _∷_}
+use Prim.Native.Nat.{ℕ, zero, suc}
+use Rattle.modes.specs.Modes.{mode}
+use Rattle.record.specs.declared.message.Message.{Message}
+use Rattle.station.specs.Event.{Request, Hello, KeepAlive, Ask, Release, Keep, Done, Granted, Wait, InUse, Acked, Nacked, Demand}
+use Rattle.station.specs.Effect.{Answer}
+use Rattle.station.specs.declared.event.Answer.the-variants as answer
+pub use Rattle.station.specs.declared.border.Meant.{Meant}
+pub use Rattle.station.specs.declared.border.Meant.the-variants.{For, NotForRoom}
+
+-- "6 ACK: detail 0 done .., 1 granted .., 2 wait or 3 in use"; the record has no other detail
+abbrev pub ackAs : ℕ → Message → Meant
+ackAs zero m = For (Acked (m .station) (m .number) Done)
+ackAs (suc zero) m = For (Acked (m .station) (m .number) (Granted (m .profile) (mode (m .mode))))
+ackAs (suc (suc zero)) m = For (Acked (m .station) (m .number) (Wait (m .profile)))
+ackAs (suc (suc (suc zero))) m = For (Acked (m .station) (m .number) (InUse (m .profile)))
+ackAs (suc (suc (suc (suc n)))) m = NotForRoom
+
+-- "only 6 to 8 to a room": 6 ACK, 7 NACK, 8 demand
+abbrev pub meantAs : ℕ → Message → Meant
+meantAs (suc (suc (suc (suc (suc (suc zero)))))) m = ackAs (m .detail) m
+meantAs (suc (suc (suc (suc (suc (suc (suc zero))))))) m = For (Nacked (m .station) (m .number) (m .detail))
+meantAs (suc (suc (suc (suc (suc (suc (suc (suc zero)))))))) m = For (Demand (m .station) (m .profile) (mode (m .mode)))
+meantAs zero m = NotForRoom
+meantAs (suc zero) m = NotForRoom
+meantAs (suc (suc zero)) m = NotForRoom
+meantAs (suc (suc (suc zero))) m = NotForRoom
+meantAs (suc (suc (suc (suc zero)))) m = NotForRoom
+meantAs (suc (suc (suc (suc (suc zero))))) m = NotForRoom
+meantAs (suc (suc (suc (suc (suc (suc (suc (suc (suc n))))))))) m = NotForRoom
+
+unfoldable pub eventOf : Message → Meant
+eventOf m = meantAs (m .kind) m
+
+abbrev pub message : ℕ → ℕ → ℕ → ℕ → ℕ → ℕ → Message
+message kind station number profile mode detail =
+    record { kind = kind; station = station; number = number; profile = profile; mode = mode; detail = detail }
+
+-- "1 hello and 2 keep-alive: 255, 0, 0. 3 ask: profile .., mode .., 0. 4 release and 5 keep: profile, 0, 0."
+unfoldable pub messageOf : ℕ → ℕ → Request → Message
+messageOf own number Hello = message 1 own number 255 0 0
+messageOf own number KeepAlive = message 2 own number 255 0 0
+messageOf own number (Ask p m) = message 3 own number p (m .0) 0
+messageOf own number (Release p) = message 4 own number p 0 0
+messageOf own number (Keep p) = message 5 own number p 0 0
+
+-- what an answer sends
+unfoldable pub sentBy : ℕ → Answer → List Message
+sentBy own answer.Done = []
+sentBy own (answer.Sent number q) = messageOf own number q ∷ []
+sentBy own (answer.Advice a) = []
+sentBy own (answer.Refused n) = []

@@ -1,0 +1,9 @@
+pub mod Event
+pub mod Hold
+pub mod Stage
+pub mod Refusal
+pub mod Rules
+pub mod Effect
+pub mod Station
+pub mod Said
+pub mod Border
