@@ -67,8 +67,18 @@ module _ (z : Settings) (good : inRange z ≡ true) (w : World) (h : List Moment
     pub inv : Inv (lease z) (slotOf (w .server) i) (seatOf r) (sentUp U i) (ackDown (w .down) i) (past h i) (cs i)
     pub own : Own z i r
 
-  moved : (x : Stepped) → Fit (x .station) (sentBy i (x .answer) ++ w .up) → Sound z (withRoom w i x) h cs
-  moved x F = record {
+  -- the world after a step of room i, with what it sent under a station's number
+  abbrev movedAs : Stepped → ℕ → World
+  movedAs x n =
+      record {
+        server = w .server;
+        rooms = λ (j : ℕ). cond (eqb j i) (x .station) (w .rooms j);
+        up = sentBy n (x .answer) ++ w .up;
+        down = w .down;
+      }
+
+  moved-own : (x : Stepped) → Fit (x .station) (sentBy i (x .answer) ++ w .up) → Sound z (movedAs x i) h cs
+  moved-own x F = record {
     pair = λ j b. split j i (λ e. mine j e) (λ e. other j b e);
     own = λ j b. split j i (λ e. mine-own j e) (λ e. other-own j b e);
     kept = I .kept;
@@ -93,6 +103,10 @@ module _ (z : Settings) (good : inRange z ≡ true) (w : World) (h : List Moment
 
       other-own : (j : ℕ) → j < z .stations → (j ≡ i → ⊥) → Own z j (cond (eqb j i) (x .station) (w .rooms j))
       other-own j b e = subst (λ (b : Bool). Own z j (cond b (x .station) (w .rooms j))) (sym (ne-eqb j i e)) (I .own j b)
+
+  -- the room's own number is i
+  moved : (x : Stepped) → Fit (x .station) (sentBy i (x .answer) ++ w .up) → Sound z (withRoom w i x) h cs
+  moved x F = subst (λ (n : ℕ). Sound z (movedAs x n) h cs) (sym (F .own .number)) (moved-own x F)
 
   -- the lease that has run out ends first; a restart goes out too
   goes : (r : Station) (now : ℕ) → Fit r (w .up) → Fit (gone r now) (w .up)

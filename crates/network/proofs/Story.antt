@@ -118,7 +118,7 @@ module _ (z : Settings) (w : ℕ) where
 
     -- one message there, and its ACK back, with no time between
     pub exchange : {s : Server} {rooms : ℕ → Station} → Story Q s rooms → (i : ℕ) → i < z .stations → (q : Request) (m : Message) (X : Stepped) →
-        roomStep (rooms i) (cs i) (Send q) ≡ X → sentBy i (X .answer) ≡ m ∷ [] →
+        roomStep (rooms i) (cs i) (Send q) ≡ X → sentBy (X .station .number) (X .answer) ≡ m ∷ [] →
         (e : ServerEvent) (Y : Served) (m′ : Message) (ds : List Message) → serverEvent m ≡ to-server.For e → serverStep w s c e ≡ Y → sentFor (m .station) (m .number) (Y .answer) ≡ m′ ∷ ds →
         (e′ : RoomEvent) (X′ : Stepped) → roomEvent m′ ≡ to-room.For e′ → roomStep (X .station) (cs i) e′ ≡ X′ →
         Story Q (Y .server) (put i (X′ .station) rooms)
@@ -135,7 +135,7 @@ module _ (z : Settings) (w : ℕ) where
 
     -- a message there, and its answer left to lie
     pub said : {s : Server} {rooms : ℕ → Station} → Story Q s rooms → (i : ℕ) → i < z .stations → (q : Request) (m : Message) (X : Stepped) →
-        roomStep (rooms i) (cs i) (Send q) ≡ X → sentBy i (X .answer) ≡ m ∷ [] →
+        roomStep (rooms i) (cs i) (Send q) ≡ X → sentBy (X .station .number) (X .answer) ≡ m ∷ [] →
         (e : ServerEvent) (Y : Served) → serverEvent m ≡ to-server.For e → serverStep w s c e ≡ Y →
         Story Q (Y .server) (put i (X .station) rooms)
     said {s} {rooms} S i here q m X x-is m-is e Y e-is y-is =

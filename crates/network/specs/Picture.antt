@@ -58,7 +58,7 @@ withRoom w i x =
     record {
       server = w .server;
       rooms = λ (j : ℕ). cond (eqb j i) (x .station) (w .rooms j);
-      up = sentBy i (x .answer) ++ w .up;
+      up = sentBy (x .station .number) (x .answer) ++ w .up;
       down = w .down;
     }
 

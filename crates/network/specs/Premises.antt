@@ -1,4 +1,5 @@
--- What condition 3 takes for granted, a line for each premise.
+-- What condition 3 takes for granted of clocks and network, a line for each premise. The others stand in the picture itself:
+-- 'same settings, own numbers' is `worldAtFirst`, and 'true readings' is `next`.
 use mathlib.Core.Path.{_≡_}
 use mathlib.Core.Bool.{Bool, true, false}
 use mathlib.Core.List.{List, [], _∷_, List·Memᴰ}

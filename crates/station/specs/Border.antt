@@ -1,9 +1,10 @@
 -- The station's borders: from a received message to an event, and from what it sends to its message.
+use mathlib.Core.Bool.{Bool, true, false}
 use mathlib.Core.List.{List, [], _∷_}
 use Prim.Native.Nat.{ℕ, zero, suc}
 use Rattle.modes.specs.Modes.{mode}
 use Rattle.record.specs.declared.message.Message.{Message}
-use Rattle.station.specs.Event.{Request, Hello, KeepAlive, Ask, Release, Keep, Done, Granted, Wait, InUse, Acked, Nacked, Demand}
+use Rattle.station.specs.Event.{Request, Hello, KeepAlive, Ask, Release, Keep, Ack, Done, Granted, Wait, InUse, Event, Send, Begin, Edit, End, WriteOut, Restart, Acked, Nacked, Demand}
 use Rattle.station.specs.Effect.{Answer}
 use Rattle.station.specs.declared.event.Answer.the-variants as answer
 pub use Rattle.station.specs.declared.border.Meant.{Meant}
@@ -32,6 +33,60 @@ meantAs (suc (suc (suc (suc (suc (suc (suc (suc (suc n))))))))) m = NotForRoom
 
 unfoldable pub eventOf : Message → Meant
 eventOf m = meantAs (m .kind) m
+
+-- an event in the paper's numbers: whether there is one; the fields of its message; and for what is no message from the server,
+-- which no border gives, which of the room's own events it is (1 to 6; 0 for a message)
+pub record SaidMeant : Type 0 where
+  pub good : Bool
+  pub own : ℕ
+  pub kind : ℕ
+  pub station : ℕ
+  pub number : ℕ
+  pub profile : ℕ
+  pub mode : ℕ
+  pub detail : ℕ
+
+abbrev pub saidAs : ℕ → ℕ → ℕ → ℕ → ℕ → ℕ → ℕ → SaidMeant
+saidAs own kind station number profile mode detail =
+    record {
+      good = true;
+      own = own;
+      kind = kind;
+      station = station;
+      number = number;
+      profile = profile;
+      mode = mode;
+      detail = detail;
+    }
+
+abbrev pub saidAck : ℕ → ℕ → Ack → SaidMeant
+saidAck i k Done = saidAs 0 6 i k 255 0 0
+saidAck i k (Granted p m) = saidAs 0 6 i k p (m .0) 1
+saidAck i k (Wait p) = saidAs 0 6 i k p 0 2
+saidAck i k (InUse p) = saidAs 0 6 i k p 0 3
+
+abbrev pub saidSend : Request → SaidMeant
+saidSend Hello = saidAs 1 1 0 0 255 0 0
+saidSend KeepAlive = saidAs 1 2 0 0 255 0 0
+saidSend (Ask p m) = saidAs 1 3 0 0 p (m .0) 0
+saidSend (Release p) = saidAs 1 4 0 0 p 0 0
+saidSend (Keep p) = saidAs 1 5 0 0 p 0 0
+
+abbrev pub saidEvent : Event → SaidMeant
+saidEvent (Send q) = saidSend q
+saidEvent (Begin p m) = saidAs 2 0 0 0 p (m .0) 0
+saidEvent (Edit p) = saidAs 3 0 0 0 p 0 0
+saidEvent (End p) = saidAs 4 0 0 0 p 0 0
+saidEvent (WriteOut p) = saidAs 5 0 0 0 p 0 0
+saidEvent Restart = saidAs 6 0 0 0 0 0 0
+saidEvent (Acked i k a) = saidAck i k a
+saidEvent (Nacked i k d) = saidAs 0 7 i k 255 0 d
+saidEvent (Demand i p m) = saidAs 0 8 i 0 p (m .0) 0
+
+abbrev pub saidMeant : Meant → SaidMeant
+saidMeant (For e) = saidEvent e
+saidMeant NotForRoom =
+    record { good = false; own = 0; kind = 0; station = 0; number = 0; profile = 0; mode = 0; detail = 0 }
 
 abbrev pub message : ℕ → ℕ → ℕ → ℕ → ℕ → ℕ → Message
 message kind station number profile mode detail =

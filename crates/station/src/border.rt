@@ -5,7 +5,7 @@ use crate::event::Request;
 use modes::Mode;
 use record::Message;
 ghost use mathlib.Core.Path.{_≡_};
-ghost use Rattle.station.specs.Border.{ackAs, eventOf, message, messageOf};
+ghost use Rattle.station.specs.Border.{saidMeant, ackAs, eventOf, message, messageOf};
 
 // An event, or a message of the other side's kinds, which is the caller's to drop.
 pub enum Meant {
@@ -31,7 +31,7 @@ fn ack_of(m: Message) -> Meant
 
 // The event that a message is.
 pub fn event_of(m: Message) -> Meant
-    ensures { λ r. ⌜ r ≡ eventOf m ⌝ }
+    ensures { λ r. ⌜ saidMeant r ≡ saidMeant (eventOf m) ⌝ }
 {
     let kind = m.kind;
     match kind {
