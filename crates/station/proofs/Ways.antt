@@ -3,22 +3,27 @@
 use mathlib.Core.Path.{_≡_, refl, sym, ap, _∙_}
 use mathlib.Core.Bool.{Bool, true, false, cond, _&&_, not}
 use mathlib.Core.List.{List}
-use Prim.Native.Nat.{ℕ, zero, suc, _+_}
+use Prim.Native.Nat.{ℕ, zero, suc, _+_, _-_, _<_}
 use native.Mathlib.Omega.{arith}
 use lib.Dec.{ltb}
 use lib.Count.{ones}
 use Rattle.masks.specs.Mask.{mask}
 use Rattle.masks.proofs.Laws.{mask-ones}
+use borrow.Author.Tests.{ltb-true}
 use Rattle.modes.specs.Modes.{isMode, covers}
+use Rattle.modes.specs.declared.Mode.{Mode}
+use Rattle.timing.specs.declared.settings.Phase.{Phase}
+use Rattle.timing.specs.Phase.{saidPhase, phaseAfter}
+use Rattle.timing.proofs.Said.{phase-told}
 use Rattle.timing.specs.declared.settings.Settings.{Settings}
 use Rattle.timing.specs.Settings.{lease, inRange, leaseAnswer}
-use Rattle.station.specs.Event.{Request, Hello, KeepAlive, Ask, Release, Keep, Waiting, Event, Send, Begin, Edit, End, WriteOut, Restart, Acked, Nacked, Demand}
-use Rattle.station.specs.Hold.{Hold}
-use Rattle.station.specs.Stage.{Standing, Stage, passed}
+use Rattle.station.specs.Event.{Request, Hello, KeepAlive, Ask, Release, Keep, Waiting, Ack, Event, Send, Begin, Edit, End, WriteOut, Restart, Acked, Nacked, Demand}
+use Rattle.station.specs.Hold.{Hold, holdIn}
+use Rattle.station.specs.Stage.{Standing, Out, Open, Closing, isOut, Stage, passed, openPhase, closingPhase, phaseAt}
 use Rattle.station.specs.Refusal.{ownRefusal, refusal, useRefusal}
-use Rattle.station.specs.Rules.{lastNumber, numberRefusal, releaseRefusal, startedRefusal, sendingRefusal, sendRefusal, beginRefusal, endRefusal}
+use Rattle.station.specs.Rules.{lastNumber, numberRefusal, releaseRefusal, startedRefusal, sendingRefusal, sendRefusal, beginRefusal, endRefusal, ackProfile, ackForbids}
 use Rattle.station.specs.Effect.{standingAfter, sentAt, startAfter, lastAfter, waitingAfter, holdsAfter, numberFree, countFree, Answer, answerTo}
-use Rattle.station.specs.Station.{Station, Stepped, modeOf, leaseOf, isOver, endedIf, expire, lost, lostIf, isRestart, forbids, after, stepped, ifAllowed, judged, ifGood, step, ifAsked, usable, ifUse}
+use Rattle.station.specs.Station.{Station, Stepped, leaseOf, isOver, endedIf, expire, lost, lostIf, isRestart, forbids, after, stepped, ifAllowed, judged, ifGood, step, ifAsked, usable, ifUse, holdAt, stageOf, mayUse}
 use Rattle.station.specs.declared.event.Answer.the-variants as answer
 use Rattle.station.specs.declared.event.PhaseAnswer.the-variants as phase
 use Rattle.station.specs.declared.event.UseAnswer.the-variants as use'
@@ -102,7 +107,7 @@ good-asked z own last now p h = own-good z own (own-of _ _ h)
 pub lease-is : (z : Settings) → inRange z ≡ true → leaseAnswer z ≡ lease z
 lease-is z e = ap (λ (t : Bool). cond t (lease z) 0) e
 
-pub ended-settings : (b : Bool) (s : Station) (now : ℕ) → endedIf b s now .settings ≡ s .settings
+ended-settings : (b : Bool) (s : Station) (now : ℕ) → endedIf b s now .settings ≡ s .settings
 unfolding endedIf
 ended-settings true s now = refl
 ended-settings false s now = refl
@@ -117,19 +122,31 @@ module _ (s : Station) (now : ℕ) (e : Event) (r : ℕ) (d : r ≡ refusal (s .
       by-number zero z = absurd (h z)
       by-number (suc i) z = rw z
 
-  module _ (h : r ≡ 0) (over : Bool) (o : over ≡ isOver s now) where
-    pub taken : (l : ℕ) → l ≡ mask (lostIf (over && not (isRestart e)) (s .holds)) → (x : Station) → x ≡ endedIf over s now
-        → (j : Stepped) → j ≡ judged x e l (ones l) → j ≡ step s now e
-    unfolding step ifGood
-    taken l f x g j q =
-        let l' : l ≡ mask (lost s now e) = f ∙ ap (λ (t : Bool). mask (lostIf (t && not (isRestart e)) (s .holds))) o in
-        let x' : x ≡ expire s now = g ∙ ap (λ (t : Bool). endedIf t s now) o in
-        q
-        ∙ both (λ (x : Station) (l : ℕ). judged x e l (ones l)) x' l'
-        ∙ ap (judged (expire s now) e (mask (lost s now e))) (mask-ones (lost s now e))
-        ∙ ap (λ (i : ℕ). ifGood i s now e) (sym h ∙ d)
+  module _ (h : r ≡ 0) where
+    good : inRange (s .settings) ≡ true
+    good = good-settings (s .settings) (s .number) (s .reading) now e (sym d ∙ h)
 
--- the two questions; r is what the code finds of 1 to 6
+    pub still-good : (over : Bool) (x : Station) → x ≡ endedIf over s now → inRange (x .settings) ≡ true
+    still-good over x g = ap inRange (ap (λ (x : Station). x .settings) g ∙ ended-settings over s now) ∙ good
+
+    module _ (k : ℕ) (c : k ≡ leaseAnswer (s .settings)) (over : Bool) (v : over ≡ (not (isOut (s .standing)) && passed (s .start) k now)) where
+      is-over : over ≡ isOver s now
+      is-over =
+          v
+          ∙ ap (λ (k : ℕ). not (isOut (s .standing)) && passed (s .start) k now) (c ∙ lease-is (s .settings) good)
+
+      pub taken : (l : ℕ) → l ≡ mask (lostIf (over && not (isRestart e)) (s .holds)) → (x : Station) → x ≡ endedIf over s now
+          → (j : Stepped) → j ≡ judged x e l (ones l) → j ≡ step s now e
+      unfolding step ifGood
+      taken l f x g j q =
+          let l' : l ≡ mask (lost s now e) = f ∙ ap (λ (t : Bool). mask (lostIf (t && not (isRestart e)) (s .holds))) is-over in
+          let x' : x ≡ expire s now = g ∙ ap (λ (t : Bool). endedIf t s now) is-over in
+          q
+          ∙ both (λ (x : Station) (l : ℕ). judged x e l (ones l)) x' l'
+          ∙ ap (judged (expire s now) e (mask (lost s now e))) (mask-ones (lost s now e))
+          ∙ ap (λ (i : ℕ). ifGood i s now e) (sym h ∙ d)
+
+-- the phase asked for; r is what the code finds of 1 to 6
 module _ (r n : ℕ) (d : r ≡ n) where
   pub phase-refused : (m : ℕ) → (r ≡ 0 → ⊥) → phase.Refused r ≡ ifAsked n m
   phase-refused m h = by-number r refl ∙ ap (λ (i : ℕ). ifAsked i m) d
@@ -138,37 +155,90 @@ module _ (r n : ℕ) (d : r ≡ n) where
       by-number zero z = absurd (h z)
       by-number (suc i) z = rw z
 
-  pub use-refused : (b : Bool) → (r ≡ 0 → ⊥) → use'.Refused r ≡ ifUse n b
-  use-refused b h = by-number r refl ∙ ap (λ (i : ℕ). ifUse i b) d
-    where
-      by-number : (i : ℕ) → r ≡ i → use'.Refused r ≡ ifUse r b
-      by-number zero z = absurd (h z)
-      by-number (suc i) z = rw z
+  module _ (h : r ≡ 0) (k m : ℕ) (e : k ≡ m) where
+    pub phase-out : k ≡ 0 → phase.Out ≡ ifAsked n m
+    phase-out z = both ifAsked (sym h ∙ d) (sym z ∙ e)
 
-  module _ (h : r ≡ 0) where
-    pub phase-out : (k m : ℕ) → k ≡ m → k ≡ 0 → phase.Out ≡ ifAsked n m
-    phase-out k m e z = both ifAsked (sym h ∙ d) (sym z ∙ e)
-
-    pub phase-in : (k m : ℕ) → k ≡ m → (k ≡ 0 → ⊥) → phase.Phase k ≡ ifAsked n m
-    phase-in k m e g = by-number k refl ∙ both ifAsked (sym h ∙ d) e
+    pub phase-in : (k ≡ 0 → ⊥) → phase.Phase k ≡ ifAsked n m
+    phase-in g = by-number k refl ∙ both ifAsked (sym h ∙ d) e
       where
         by-number : (i : ℕ) → k ≡ i → phase.Phase k ≡ ifAsked 0 k
         by-number zero z = absurd (g z)
         by-number (suc i) z = rw z
 
-    pub use-no : (b : Bool) → b ≡ false → use'.No ≡ ifUse n b
-    use-no b e = both ifUse (sym h ∙ d) (sym e)
+-- the use asked for; t is whether a mode is held, o whether the lease has run
+module _ (s : Station) (now p r : ℕ) (d : r ≡ useRefusal (s .settings) (s .number) (s .reading) now p) where
+  pub use-refused : (r ≡ 0 → ⊥) → use'.Refused r ≡ mayUse s now p
+  unfolding mayUse
+  use-refused h = by-number r refl ∙ ap (λ (i : ℕ). ifUse i (usable s now p)) d
+    where
+      by-number : (i : ℕ) → r ≡ i → use'.Refused r ≡ ifUse r (usable s now p)
+      by-number zero z = absurd (h z)
+      by-number (suc i) z = rw z
 
-    pub use-yes : (b : Bool) → b ≡ true → use'.Yes ≡ ifUse n b
-    use-yes b e = both ifUse (sym h ∙ d) (sym e)
+  module _ (h : r ≡ 0) (k : Hold) (f : k ≡ holdAt s p) (t : Bool) (e : t ≡ isMode (k .mode .0)) where
+    answered : (b : Bool) → usable s now p ≡ b → ifUse 0 b ≡ mayUse s now p
+    unfolding mayUse
+    answered b g = both ifUse (sym h ∙ d) (sym g)
 
--- what may be used: t is whether a mode is held, o whether the lease has run
-module _ (s : Station) (now p : ℕ) (t : Bool) (e : t ≡ isMode (modeOf s p)) where
-  pub not-held : t ≡ false → usable s now p ≡ false
-  not-held h = ap (λ (b : Bool). b && ltb now (s .start + leaseOf s)) (sym e ∙ h)
+    held : (b : Bool) → t ≡ b → usable s now p ≡ (b && ltb now (s .start + leaseOf s))
+    held b g = ap (λ (b : Bool). b && ltb now (s .start + leaseOf s)) (sym (e ∙ ap (λ (k : Hold). isMode (k .mode .0)) f) ∙ g)
 
-  pub by-lease : t ≡ true → (o : Bool) → o ≡ passed (s .start) (leaseOf s) now → usable s now p ≡ not o
-  by-lease h o g =
-      ap (λ (b : Bool). b && ltb now (s .start + leaseOf s)) (sym e ∙ h)
-      ∙ below-not now (s .start + leaseOf s)
-      ∙ ap not (sym g)
+    pub use-unheld : t ≡ false → use'.No ≡ mayUse s now p
+    use-unheld g = answered false (held false g)
+
+    module _ (g : t ≡ true) (l : ℕ) (c : l ≡ leaseAnswer (s .settings)) (o : Bool) (v : o ≡ passed (s .start) l now) where
+      by-lease : usable s now p ≡ not o
+      by-lease =
+          let z : inRange (s .settings) ≡ true = good-asked (s .settings) (s .number) (s .reading) now p (sym d ∙ h) in
+          held true g
+          ∙ below-not now (s .start + leaseOf s)
+          ∙ ap not (sym (v ∙ ap (λ (l : ℕ). passed (s .start) l now) (c ∙ lease-is (s .settings) z)))
+
+      pub use-over : o ≡ true → use'.No ≡ mayUse s now p
+      use-over b = answered false (by-lease ∙ ap not b)
+
+      pub use-leased : o ≡ false → use'.Yes ≡ mayUse s now p
+      use-leased b = answered true (by-lease ∙ ap not b)
+
+-- the phase of a station; f is what the settings answer of the ticks since its lease's start
+module _ (z : Settings) (σ : Standing) (start now t : ℕ) (e : t ≡ now - start) (f : Phase) (d : saidPhase f ≡ saidPhase (phaseAfter z t)) where
+  in-phase : f ≡ phaseAfter z (now - start)
+  in-phase = phase-told f (phaseAfter z t) d ∙ ap (phaseAfter z) e
+
+  pub phase-open : (r : ℕ) → r ≡ openPhase f → σ ≡ Open → r ≡ phaseAt z σ start now
+  unfolding phaseAt
+  phase-open r g o = g ∙ ap openPhase in-phase ∙ sym (ap (λ (σ : Standing). phaseAt z σ start now) o)
+
+  pub phase-closing : (r : ℕ) → r ≡ closingPhase f → σ ≡ Closing → r ≡ phaseAt z σ start now
+  unfolding phaseAt
+  phase-closing r g o = g ∙ ap closingPhase in-phase ∙ sym (ap (λ (σ : Standing). phaseAt z σ start now) o)
+
+pub phase-none : (z : Settings) (σ : Standing) (start now : ℕ) → σ ≡ Out → 0 ≡ phaseAt z σ start now
+unfolding phaseAt
+phase-none z σ start now o = sym (ap (λ (σ : Standing). phaseAt z σ start now) o)
+
+-- a count that goes up or down has room
+module _ (holds : List Hold) (e : Event) (d : countFree holds e ≡ true) (p : ℕ) (h : Hold) (f : h ≡ holdIn holds p) where
+  counts : (g : ℕ → Bool) → g (holdIn holds p .started) ≡ true → g (h .started) ≡ true
+  counts g q = ap (λ (h : Hold). g (h .started)) f ∙ q
+
+  pub room-up : (m : Mode) → e ≡ Begin p m → h .started < 255
+  room-up m q = ltb-true _ _ (counts (λ (n : ℕ). ltb n 255) (sym (ap (countFree holds) q) ∙ d))
+
+  pub room-down : e ≡ End p → 0 < h .started
+  room-down q = ltb-true _ _ (counts (λ (n : ℕ). ltb 0 n) (sym (ap (countFree holds) q) ∙ d))
+
+-- a rule on the stage and on one profile's hold, as the code finds them
+pub on-hold : (x : Station) (p : ℕ) (f : Stage → Hold → ℕ) (r : ℕ) (stage : Stage) (h : Hold)
+    → r ≡ f stage h → stage ≡ stageOf x → h ≡ holdAt x p → r ≡ f (stageOf x) (holdAt x p)
+on-hold x p f r stage h e d g = e ∙ both f d g
+
+-- the ACK's rule, on the lease and on the mode held
+pub on-ack : (x : Station) (k : ℕ) (a : Ack) (r l p : ℕ) (h : Hold) → inRange (x .settings) ≡ true
+    → r ≡ ackForbids (x .waiting) l (x .reading) (x .last) k (h .mode .0) a → l ≡ leaseAnswer (x .settings)
+    → h ≡ holdIn (x .holds) p → p ≡ ackProfile a → (i : ℕ) → r ≡ forbids x (Acked i k a)
+on-ack x k a r l p h z e c f g i =
+    e
+    ∙ both (λ (l m : ℕ). ackForbids (x .waiting) l (x .reading) (x .last) k m a) (c ∙ lease-is (x .settings) z)
+    (ap (λ (h : Hold). h .mode .0) (f ∙ ap (holdIn (x .holds)) g))

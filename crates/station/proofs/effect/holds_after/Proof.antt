@@ -1,13 +1,9 @@
 -- `holds_after` changes the hold that the event names.
-use Rattle.station.specs.Hold.{holdIn}
-use Prim.Native.Nat.{_<_}
-use borrow.Author.Tests.{ltb-true}
-use native.Mathlib.Omega.{arith}
-use Rattle.station.specs.Effect.{countFree}
-use Rattle.station.specs.Hold.{Hold}
-use mathlib.Core.Path.{_≡_, sym, ap, _∙_}
-use Rattle.station.specs.Effect.{holdsAfter}
+use Rattle.station.proofs.Ways.{room-up, room-down}
 use Rattle.station.proofs.Choice.{stored}
+use native.Mathlib.Omega.{arith}
+use mathlib.Core.Path.{sym, ap, _∙_}
+use Rattle.station.specs.Effect.{holdsAfter}
 use mathlib.Core.Bool.{true, false}
 use Rattle.station.specs.Hold.{withUnwritten}
 use Rattle.station.specs.Effect.{begun, ended}
@@ -29,8 +25,8 @@ hold-at-requires c κs = search needs
 
 add-with-started : tie.Need-add-with-started
 add-with-started c =
-    let h : holdIn (c .before .before .before .before .before .args .holds) (c .before .before .before .event2 .given .0 .0) .started < 255 = ltb-true _ _ (sym (ap (countFree (c .before .before .before .before .before .args .holds)) (c .before .before .before .event2 .given .1)) ∙ c .before .before .before .before .before .pre) in
-    let e : c .before .hold-at .result .started ≡ holdIn (c .before .before .before .before .before .args .holds) (c .before .before .before .event2 .given .0 .0) .started = ap (λ (h : Hold). h .started) (c .before .hold-at .ensures) in
+    let a = c .before .before .before .before .before .args in
+    let h = room-up (a .holds) (a .event) (c .before .before .before .before .before .pre) _ (c .before .hold-at .result) (c .before .hold-at .ensures) _ (c .before .before .before .event2 .given .1) in
     omega arith
 
 with-started-requires : tie.Need-with-started-requires
@@ -59,8 +55,8 @@ hold-at-requires-3 c κs = search needs
 
 sub-with-started : tie.Need-sub-with-started
 sub-with-started c =
-    let h : 0 < holdIn (c .before .before .before .before .before .args .holds) (c .before .before .before .event4 .given .0 .0) .started = ltb-true _ _ (sym (ap (countFree (c .before .before .before .before .before .args .holds)) (c .before .before .before .event4 .given .1)) ∙ c .before .before .before .before .before .pre) in
-    let e : c .before .hold-at3 .result .started ≡ holdIn (c .before .before .before .before .before .args .holds) (c .before .before .before .event4 .given .0 .0) .started = ap (λ (h : Hold). h .started) (c .before .hold-at3 .ensures) in
+    let a = c .before .before .before .before .before .args in
+    let h = room-down (a .holds) (a .event) (c .before .before .before .before .before .pre) _ (c .before .hold-at3 .result) (c .before .hold-at3 .ensures) (c .before .before .before .event4 .given .1) in
     omega arith
 
 with-started-requires-2 : tie.Need-with-started-requires-2

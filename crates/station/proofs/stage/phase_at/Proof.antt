@@ -1,8 +1,5 @@
 -- `phase_at` asks the settings for the phase, and a closing station counts 1 and 2 as 3.
-use mathlib.Core.Path.{sym, ap, _∙_}
-use Rattle.station.specs.Stage.{Standing, openPhase, closingPhase, phaseAt}
-use Rattle.timing.specs.Phase.{phaseAfter}
-use Rattle.timing.proofs.Said.{phase-told}
+use Rattle.station.proofs.Ways.{phase-none, phase-open, phase-closing}
 use borrow.Author.Needs.{needs}
 use Rattle.station.proofs.stage.phase_at.Statement.{statement}
 use Rattle.station.proofs.stage.phase_at.Tie as tie
@@ -29,28 +26,21 @@ closing-phase-requires : tie.Need-closing-phase-requires
 closing-phase-requires c κs = search needs
 
 returns : tie.Need-returns
-unfolding phaseAt
-returns c =
-    sym
-    (ap (λ (σ : Standing). phaseAt (c .before .before .before .before .args .settings) σ (c .before .before .before .before .args .start) (c .before .before .before .before .args .reading)) (c .enum-told .given .1))
+returns c = let a = c .before .before .before .before .args in phase-none (a .settings) (a .standing) (a .start) (a .reading) (c .enum-told .given .1)
 
 returns-2 : tie.Need-returns-2
-unfolding phaseAt
 returns-2 c =
-    c .open-phase .ensures
-    ∙ ap openPhase
-    (phase-told (c .before .before .before .phase .result) (phaseAfter (c .before .before .before .before .before .args .settings) (c .before .before .before .before .ticks-since .result)) (c .before .before .before .phase .ensures) ∙ ap (phaseAfter (c .before .before .before .before .before .args .settings)) (c .before .before .before .before .ticks-since .ensures))
-    ∙ sym
-    (ap (λ (σ : Standing). phaseAt (c .before .before .before .before .before .args .settings) σ (c .before .before .before .before .before .args .start) (c .before .before .before .before .before .args .reading)) (c .before .enum-told2 .given .1))
+    let a = c .before .before .before .before .before .args in
+    phase-open (a .settings) (a .standing) (a .start) (a .reading) _ (c .before .before .before .before .ticks-since .ensures)
+    (c .before .before .before .phase .result) (c .before .before .before .phase .ensures) _ (c .open-phase .ensures)
+    (c .before .enum-told2 .given .1)
 
 returns-3 : tie.Need-returns-3
-unfolding phaseAt
 returns-3 c =
-    c .closing-phase .ensures
-    ∙ ap closingPhase
-    (phase-told (c .before .before .before .phase .result) (phaseAfter (c .before .before .before .before .before .args .settings) (c .before .before .before .before .ticks-since .result)) (c .before .before .before .phase .ensures) ∙ ap (phaseAfter (c .before .before .before .before .before .args .settings)) (c .before .before .before .before .ticks-since .ensures))
-    ∙ sym
-    (ap (λ (σ : Standing). phaseAt (c .before .before .before .before .before .args .settings) σ (c .before .before .before .before .before .args .start) (c .before .before .before .before .before .args .reading)) (c .before .enum-told3 .given .1))
+    let a = c .before .before .before .before .before .args in
+    phase-closing (a .settings) (a .standing) (a .start) (a .reading) _ (c .before .before .before .before .ticks-since .ensures)
+    (c .before .before .before .phase .result) (c .before .before .before .phase .ensures) _ (c .closing-phase .ensures)
+    (c .before .enum-told3 .given .1)
 
 pub phase-at-spec : {M : Type 1} → statement M
 phase-at-spec =

@@ -1,11 +1,12 @@
 -- `Station::forbids` goes by the event to its rule.
 use mathlib.Core.Path.{sym, ap, _∙_}
-use Prim.Native.Nat.{ℕ}
-use Rattle.station.proofs.Choice.{both}
-use Rattle.station.proofs.Ways.{lease-is}
+use Rattle.station.proofs.Ways.{on-hold, on-ack}
+use Rattle.station.specs.Rules.{sendRefusal, beginRefusal, editRefusal, endRefusal, writeOutRefusal, demandRefusal}
+use Rattle.station.specs.Station.{profileOf, forbids}
+use mathlib.Core.Path.{sym, ap, _∙_}
 use Rattle.station.specs.Hold.{Hold, holdIn}
 use Rattle.station.specs.Stage.{Stage}
-use Rattle.station.specs.Rules.{sendRefusal, beginRefusal, editRefusal, endRefusal, writeOutRefusal, demandRefusal, ackForbids}
+use Rattle.station.specs.Rules.{sendRefusal, beginRefusal, editRefusal, endRefusal, writeOutRefusal, demandRefusal}
 use Rattle.station.specs.Station.{forbids}
 use borrow.Author.Needs.{needs}
 use Rattle.station.proofs.station.Station.forbids.Statement.{statement}
@@ -95,40 +96,39 @@ demand-refusal-requires c κs = search needs
 returns : tie.Need-returns
 returns c =
     let a = c .before .before .before .before .before .before .before .before .before .args in
-    c .send-refusal .ensures
-    ∙ both (λ (s : Stage) (h : Hold). sendRefusal s h (a .self .last) (c .before .before .before .before .event .given .0 .0))
-    (c .before .before .before .before .before .before .stage-of .ensures)
+    on-hold (a .self) (profileOf (c .before .before .before .before .event .given .0 .0))
+    (λ (s : Stage) (h : Hold). sendRefusal s h (a .self .last) (c .before .before .before .before .event .given .0 .0)) _ _ _
+    (c .send-refusal .ensures) (c .before .before .before .before .before .before .stage-of .ensures)
     (c .before .hold-at .ensures ∙ ap (holdIn (a .self .holds)) (c .before .before .profile-of .ensures))
     ∙ sym (ap (forbids (a .self)) (c .before .before .before .before .event .given .1))
 
 returns-2 : tie.Need-returns-2
 returns-2 c =
     let a = c .before .before .before .before .before .before .before .before .args in
-    c .begin-refusal .ensures
-    ∙ both (λ (s : Stage) (h : Hold). beginRefusal s h (c .before .before .before .event2 .given .0 .1 .0 .0))
+    on-hold (a .self) (c .before .before .before .event2 .given .0 .0)
+    (λ (s : Stage) (h : Hold). beginRefusal s h (c .before .before .before .event2 .given .0 .1 .0 .0)) _ _ _ (c .begin-refusal .ensures)
     (c .before .before .before .before .before .stage-of .ensures) (c .before .hold-at2 .ensures)
     ∙ sym (ap (forbids (a .self)) (c .before .before .before .event2 .given .1))
 
 returns-3 : tie.Need-returns-3
 returns-3 c =
     let a = c .before .before .before .before .before .before .before .before .args in
-    c .edit-refusal .ensures
-    ∙ both (λ (s : Stage) (h : Hold). editRefusal s h) (c .before .before .before .before .before .stage-of .ensures) (c .before .hold-at3 .ensures)
+    on-hold (a .self) (c .before .before .before .event3 .given .0 .0) (editRefusal) _ _ _ (c .edit-refusal .ensures)
+    (c .before .before .before .before .before .stage-of .ensures) (c .before .hold-at3 .ensures)
     ∙ sym (ap (forbids (a .self)) (c .before .before .before .event3 .given .1))
 
 returns-4 : tie.Need-returns-4
 returns-4 c =
     let a = c .before .before .before .before .before .before .before .before .args in
-    c .end-refusal .ensures
-    ∙ both (λ (s : Stage) (h : Hold). endRefusal s h) (c .before .before .before .before .before .stage-of .ensures) (c .before .hold-at4 .ensures)
+    on-hold (a .self) (c .before .before .before .event4 .given .0 .0) (endRefusal) _ _ _ (c .end-refusal .ensures)
+    (c .before .before .before .before .before .stage-of .ensures) (c .before .hold-at4 .ensures)
     ∙ sym (ap (forbids (a .self)) (c .before .before .before .event4 .given .1))
 
 returns-5 : tie.Need-returns-5
 returns-5 c =
     let a = c .before .before .before .before .before .before .before .before .args in
-    c .write-out-refusal .ensures
-    ∙ both (λ (s : Stage) (h : Hold). writeOutRefusal s h) (c .before .before .before .before .before .stage-of .ensures)
-    (c .before .hold-at5 .ensures)
+    on-hold (a .self) (c .before .before .before .event5 .given .0 .0) (writeOutRefusal) _ _ _ (c .write-out-refusal .ensures)
+    (c .before .before .before .before .before .stage-of .ensures) (c .before .hold-at5 .ensures)
     ∙ sym (ap (forbids (a .self)) (c .before .before .before .event5 .given .1))
 
 returns-6 : tie.Need-returns-6
@@ -138,10 +138,9 @@ returns-7 : tie.Need-returns-7
 returns-7 c =
     let a = c .before .before .before .before .before .before .before .before .before .before .before .args in
     let v = c .before .before .before .before .before .before .event6 .given .0 in
-    c .ack-refusal .ensures
-    ∙ both (λ (l m : ℕ). ackForbids (a .self .waiting) l (a .self .reading) (a .self .last) (v .1 .0) m (v .1 .1 .0))
-    (c .before .lease .ensures ∙ lease-is (a .self .settings) (c .before .before .before .before .before .before .before .before .before .before .before .pre))
-    (ap (λ (h : Hold). h .mode .0) (c .before .before .before .hold-at6 .ensures ∙ ap (holdIn (a .self .holds)) (c .before .before .before .before .ack-profile .ensures)))
+    on-ack (a .self) (v .1 .0) (v .1 .1 .0) _ _ _ _ (c .before .before .before .before .before .before .before .before .before .before .before .pre)
+    (c .ack-refusal .ensures) (c .before .lease .ensures) (c .before .before .before .hold-at6 .ensures)
+    (c .before .before .before .before .ack-profile .ensures) (v .0)
     ∙ sym (ap (forbids (a .self)) (c .before .before .before .before .before .before .event6 .given .1))
 
 returns-8 : tie.Need-returns-8
