@@ -37,7 +37,8 @@ use Rattle.server.specs.Hear.{answered, greeted, ruledFor, numbered, heed, welc
 use Rattle.server.specs.Refusal.{refusal}
 use Rattle.server.specs.Step.{profileOf, afterHeard, message, ifGood, step}
 use Rattle.server.specs.Border.{sentFor, meantAs, eventOf}
-use Rattle.server.proofs.Frames.{entry, only-same, only-other, mode-wiped, width-wiped, entry-wiped, whole-wiped, entry-set-same, entry-set-other, whole-set, nobody-clashes, good-station, good-profile}
+use Rattle.server.proofs.Frames.{entry, only-same, only-other, mode-wiped, width-wiped, entry-wiped, whole-wiped, entry-set-same, entry-set-other, whole-set, nobody-clashes}
+use Rattle.server.proofs.Refusals.{station-below, profile-below}
 use Rattle.server.proofs.Sent.{Sure, acks-of}
 use Rattle.station.specs.Stage.{isOut}
 use Rattle.station.specs.Station.{modeOf}
@@ -301,8 +302,8 @@ module _ (z : Settings) (good : inRange z ≡ true) (w : World) (h : List Moment
         ap (λ (s : Settings). refusal s (w .server .reading) now (Said (m .station) (m .number) q)) (sym (I .kept .settings)) ∙ e in
         let some = ranges z good .counts .profiles in
         let most = ranges z good .counts .profiles-most in
-        let inside = good-profile z (w .server .reading) now (m .station) (m .number) q fine some in
-        on-number q means (good-station z (w .server .reading) now (m .station) (m .number) q fine) (omega arith) (liveSet (w .server .members))
+        let inside = profile-below z (w .server .reading) now (m .station) (m .number) q fine in
+        on-number q means (station-below z (w .server .reading) now (m .station) (m .number) q fine) (omega arith) (liveSet (w .server .members))
         (ltb (lastOf (w .server) (m .station)) (m .number)) refl
     on-refusal q means (suc n) e = I
 

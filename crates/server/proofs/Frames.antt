@@ -3,25 +3,20 @@
 use mathlib.Core.Path.{_≡_, refl, sym, ap, _∙_}
 use mathlib.Core.Bool.{Bool, true, false, cond, _&&_, not}
 use mathlib.Core.List.{List, [], _∷_, map}
-use Prim.Native.Nat.{ℕ, zero, suc, _<_, _≤_}
+use Prim.Native.Nat.{ℕ, zero, suc, _<_}
 use native.Mathlib.Nat.{not-suc-le-zero, le-of-suc-le-suc, zero-add}
-use native.Mathlib.Omega.{arith}
-use lib.Dec.{eqb, leb}
+use lib.Dec.{eqb}
 use lib.ListN.{length, getD, set, replicate, length-set, length-map}
 use lib.Seq.{getD-set-same, getD-set-other}
-use borrow.Author.Tests.{not-false, ne-eqb, eqb-true, eqb-false, leb-false}
+use borrow.Author.Tests.{not-false, ne-eqb, eqb-true, eqb-false}
 use Rattle.masks.specs.Mask.{Set, any, both, thoseAt, changeIn}
 use Rattle.masks.proofs.Sets.{has, has-both, has-none, has-at, has-those, changed, length-changed}
-use Rattle.modes.specs.Modes.{mode, goesWith, isMode}
+use Rattle.modes.specs.Modes.{mode, goesWith}
 use Rattle.modes.specs.declared.Mode.{Mode}
-use Rattle.timing.specs.declared.settings.Settings.{Settings}
-use Rattle.timing.specs.Settings.{inRange}
 use Rattle.server.specs.State.{Status, Unknown, TimingOut, Member, Profile, Server, nobody, noProfile, modeIn, statusOf, lastOf}
 use Rattle.server.specs.Sets.{onlyOf, isLive, isWaited, noMode, wiped, restatus, turned, clashes, conflicts, lateSet, liveSet}
 use Rattle.server.specs.Tick.{freedSet, free, startedSet, start}
-use Rattle.server.specs.Hear.{Request, Hello, KeepAlive, Ask, Release, Keep}
-use Rattle.server.specs.Refusal.{Message, orElse, requestRefusal, eventRefusal, readingRefusal, refusal}
-use Rattle.server.specs.Step.{profileOf, tick}
+use Rattle.server.specs.Step.{tick}
 
 cond-same : {A : Type 0} (b : Bool) (x : A) → cond b x x ≡ x
 cond-same true x = refl
@@ -202,36 +197,3 @@ module _ (wait : ℕ) (s : Server) (now : ℕ) where
   pub ticked-whole : Whole (s .profiles) → Whole (tick wait s now .server .profiles)
   unfolding tick free start
   ticked-whole w = whole-wiped (freedSet wait now s) (s .profiles) w
-
--- none of 1 to 6 applies: the station and the profile are in range
-cond-zero : (b : Bool) (m n : ℕ) → cond b m (suc n) ≡ 0 → (b ≡ true) × (m ≡ 0)
-cond-zero true m n e = (refl, e)
-cond-zero false m n e = absurd (omega arith)
-
-cond-else : (b : Bool) (m n : ℕ) → cond b (suc n) m ≡ 0 → (b ≡ false) × (m ≡ 0)
-cond-else true m n e = absurd (omega arith)
-cond-else false m n e = (refl, e)
-
-or-else-zero : (m n : ℕ) → orElse m n ≡ 0 → (m ≡ 0) × (n ≡ 0)
-or-else-zero zero n e = (refl, e)
-or-else-zero (suc m) n e = absurd (omega arith)
-
-module _ (z : Settings) (last now i k : ℕ) (q : Request) (good : refusal z last now (Message i k q) ≡ 0) where
-  good-event : (leb (z .stations) i ≡ false) × (requestRefusal (z .profiles) q ≡ 0)
-  unfolding refusal
-  good-event =
-      let event = cond-zero (inRange z) (orElse (eventRefusal z (Message i k q)) (readingRefusal last now)) 0 good .1 in
-      cond-else (leb (z .stations) i) (requestRefusal (z .profiles) q) 1 (or-else-zero (eventRefusal z (Message i k q)) (readingRefusal last now) event .0)
-
-  pub good-station : i < z .stations
-  good-station = leb-false (z .stations) i (good-event .0)
-
-  pub good-profile : 1 ≤ z .profiles → profileOf q < z .profiles
-  good-profile some = by-request q (good-event .1)
-    where
-      by-request : (q : Request) → requestRefusal (z .profiles) q ≡ 0 → profileOf q < z .profiles
-      by-request Hello e = some
-      by-request KeepAlive e = some
-      by-request (Ask p m) e = leb-false (z .profiles) p (cond-else (leb (z .profiles) p) (cond (isMode (m .0)) 0 4) 2 e .0)
-      by-request (Release p) e = leb-false (z .profiles) p (cond-else (leb (z .profiles) p) 0 2 e .0)
-      by-request (Keep p) e = leb-false (z .profiles) p (cond-else (leb (z .profiles) p) 0 2 e .0)

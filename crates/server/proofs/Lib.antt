@@ -6,3 +6,13 @@ pub mod Runs
 pub mod Told
 pub mod Frames
 pub mod Sent
+pub mod Marks
+pub mod Serves
+pub mod InTheWay
+pub mod Heard
+pub mod Events
+pub mod Ticks
+pub mod Cases
+pub mod Orderly
+pub mod Reachable
+pub mod Times

@@ -29,33 +29,33 @@ withMarks x marks = record { row = x .row; marks = marks }
 
 -- "it is granted"
 abbrev pub granted : ℕ → ℕ → ℕ → Profile → Ruled
-granted number me wanted x =
-    record { profile = withRow x (set (x .row) me (mode wanted)); answer = Granted number (mode wanted) }
+granted p me wanted x =
+    record { profile = withRow x (set (x .row) me (mode wanted)); answer = Granted p (mode wanted) }
 
 -- "the answer is in use and all kept marks on that profile go"
 abbrev pub inUse : ℕ → Profile → Ruled
-inUse number x =
-    record { profile = withMarks x (marksChanged dropKept everyone (x .marks)); answer = InUse number }
+inUse p x =
+    record { profile = withMarks x (marksChanged dropKept everyone (x .marks)); answer = InUse p }
 
 -- "the answer is wait: each live incompatible holder is demanded .. The answer gives these live holders .. as a mask and its count of ones."
 abbrev pub waits : ℕ → ℕ → Set → ℕ → Profile → Ruled
-waits number now holders wanted x =
+waits p now holders wanted x =
     record {
       profile = withMarks x (marksChanged (demand now) holders (x .marks));
-      answer = Wait number (mode wanted) (mask holders) (count holders);
+      answer = Wait p (mode wanted) (mask holders) (count holders);
     }
 
 -- "Otherwise, if any such holder has a kept mark" .. "Otherwise"
 abbrev pub keptOrWait : Bool → ℕ → ℕ → Set → ℕ → Profile → Ruled
-keptOrWait true number now holders wanted x = inUse number x
-keptOrWait false number now holders wanted x = waits number now holders wanted x
+keptOrWait true p now holders wanted x = inUse p x
+keptOrWait false p now holders wanted x = waits p now holders wanted x
 
 -- "If no other station holds an incompatible mode"
 abbrev pub freeOrNot : Bool → Set → ℕ → ℕ → ℕ → ℕ → Set → Profile → Ruled
-freeOrNot false live number now me wanted holders x = granted number me wanted x
-freeOrNot true live number now me wanted holders x =
-    keptOrWait (any (both holders (marksWith isKept (x .marks)))) number now (both holders live) wanted x
+freeOrNot false live p now me wanted holders x = granted p me wanted x
+freeOrNot true live p now me wanted holders x =
+    keptOrWait (any (both holders (marksWith isKept (x .marks)))) p now (both holders live) wanted x
 
 unfoldable pub askRule : Set → ℕ → ℕ → ℕ → ℕ → Profile → Ruled
-askRule live number now me asked x =
-    freeOrNot (any (inTheWay me asked x)) live number now me (wantedBy x me asked) (inTheWay me asked x) x
+askRule live p now me asked x =
+    freeOrNot (any (inTheWay me asked x)) live p now me (wantedBy x me asked) (inTheWay me asked x) x

@@ -62,7 +62,7 @@ abbrev pub lateSet : ℕ → ℕ → List Profile → Set
 lateSet answer now [] = []
 lateSet answer now (x ∷ xs) = either (marksWith (isLate answer now) (x .marks)) (lateSet answer now xs)
 
--- "another station holds an incompatible mode"
+-- another station that holds an incompatible mode
 abbrev pub clashes : ℕ → ℕ → ℕ → Mode → Bool
 clashes me wanted j held = not (eqb j me) && not (goesWith wanted (held .0))
 
@@ -78,7 +78,7 @@ dropKept Unmarked = Unmarked
 dropKept (Demanded since) = Demanded since
 dropKept Kept = Unmarked
 
--- "demanded, since now unless already demanded"
+-- "demanded, since now unless already demanded". A kept mark in the way means in use, so none is demanded in a step.
 abbrev pub demand : ℕ → Mark → Mark
 demand now Unmarked = Demanded now
 demand now (Demanded since) = Demanded since

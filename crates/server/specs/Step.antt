@@ -19,7 +19,7 @@ pub use Rattle.server.specs.declared.server.Made.{Made}
 abbrev pub made : Settings → Made
 made z = record { server = newServer z; refusal = settingsRefusal z }
 
--- the profile that a request names; 0 where it names none, and then the profile stays as it is
+-- the profile that a request names; 0 where it names none, and then what is put back there is what stood there
 abbrev pub profileOf : Request → ℕ
 profileOf Hello = 0
 profileOf KeepAlive = 0

@@ -1,0 +1,103 @@
+-- What the server's rules change and leave of the marks: the laws that Frames has of the modes.
+-- Assumes nothing.
+use mathlib.Core.Path.{_≡_, refl, sym, ap, _∙_}
+use mathlib.Core.Bool.{Bool, true, false, cond}
+use mathlib.Core.List.{List, [], _∷_, map}
+use Prim.Native.Nat.{ℕ, zero, suc, _<_, _≤_}
+use native.Mathlib.Omega.{arith}
+use lib.Dec.{eqb}
+use lib.ListN.{length, getD, set, replicate}
+use lib.Seq.{getD-set-same, getD-set-other}
+use borrow.Author.Tests.{eqb-true, eqb-false}
+use Rattle.masks.specs.Mask.{Set, changeIn}
+use Rattle.masks.proofs.Sets.{has, changed, length-changed}
+use Rattle.server.specs.State.{Mark, Unmarked, Marked, Profile, noMark, noProfile, markIn}
+use Rattle.server.specs.Sets.{wipeMark, remark, marksChanged, wiped}
+use Rattle.server.proofs.Frames.{Whole, whole-wiped, whole-set}
+
+-- a change in a set, at any place: beyond the list, where it changes nothing there
+pub changed-anywhere : {A : Type 0} (f : A → A) (d : A) (s : Set) (xs : List A) → ((j : ℕ) → length xs ≤ j → cond (has s j) (f d) d ≡ d) →
+    (j : ℕ) → getD (changeIn f s xs) j d ≡ cond (has s j) (f (getD xs j d)) (getD xs j d)
+changed-anywhere f d [] xs ends j = refl
+changed-anywhere f d (b ∷ s) [] ends j = sym (ends j (omega arith))
+changed-anywhere f d (b ∷ s) (x ∷ xs) ends zero = refl
+changed-anywhere f d (b ∷ s) (x ∷ xs) ends (suc j) = changed-anywhere f d s xs (λ j h. ends (suc j) (omega arith)) j
+
+-- the mark of station j in a row of marks, and on profile p in a list of profiles
+abbrev pub markAt : List Marked → ℕ → Mark
+markAt marks j = getD marks j noMark .mark
+
+abbrev pub markEntry : List Profile → ℕ → ℕ → Mark
+markEntry t j p = markIn (getD t p noProfile) j
+
+-- marks changed in a set: the others are as they were
+module _ (f : Mark → Mark) where
+  chosen : (b : Bool) (m : Marked) → cond b (remark f m) m .mark ≡ cond b (f (m .mark)) (m .mark)
+  chosen true m = refl
+  chosen false m = refl
+
+  module _ (s : Set) (marks : List Marked) where
+    pub mark-changed : (j : ℕ) → j < length marks → markAt (marksChanged f s marks) j ≡ cond (has s j) (f (markAt marks j)) (markAt marks j)
+    mark-changed j h = ap (λ (m : Marked). m .mark) (changed (remark f) noMark s marks j h) ∙ chosen (has s j) (getD marks j noMark)
+
+    pub mark-anywhere : ((j : ℕ) → length marks ≤ j → cond (has s j) (remark f noMark) noMark ≡ noMark) →
+        (j : ℕ) → markAt (marksChanged f s marks) j ≡ cond (has s j) (f (markAt marks j)) (markAt marks j)
+    mark-anywhere ends j = ap (λ (m : Marked). m .mark) (changed-anywhere (remark f) noMark s marks ends j) ∙ chosen (has s j) (getD marks j noMark)
+
+    pub marks-length : length (marksChanged f s marks) ≡ length marks
+    marks-length = length-changed (remark f) s marks
+
+  -- a rule that makes no mark where there is none
+  module _ (eases : f Unmarked ≡ Unmarked) where
+    pub mark-eased : (s : Set) (marks : List Marked) (j : ℕ) → markAt (marksChanged f s marks) j ≡ cond (has s j) (f (markAt marks j)) (markAt marks j)
+    mark-eased s marks j = mark-anywhere s marks (λ j h. none (has s j)) j
+      where
+        none : (b : Bool) → cond b (remark f noMark) noMark ≡ noMark
+        none true = ap (λ (m : Mark). record { mark = m }) eases
+        none false = refl
+
+    -- in the set of everyone
+    pub all-eased : (marks : List Marked) (j : ℕ) → markAt (marksChanged f (replicate (length marks) true) marks) j ≡ f (markAt marks j)
+    all-eased [] j = sym eases
+    all-eased (m ∷ marks) zero = refl
+    all-eased (m ∷ marks) (suc j) = all-eased marks j
+
+-- a wiped profile
+pub mark-wiped : (s : Set) (x : Profile) (j : ℕ) → markIn (wiped s x) j ≡ cond (has s j) Unmarked (markIn x j)
+unfolding wiped
+mark-wiped s x j = mark-eased wipeMark refl s (x .marks) j
+
+pub marks-wiped : (s : Set) (x : Profile) → length (wiped s x .marks) ≡ length (x .marks)
+unfolding wiped
+marks-wiped s x = marks-length wipeMark s (x .marks)
+
+pub mark-entry-wiped : (s : Set) (t : List Profile) (j p : ℕ) → markEntry (map (wiped s) t) j p ≡ cond (has s j) Unmarked (markEntry t j p)
+mark-entry-wiped s [] j p = none (has s j)
+  where
+    none : (b : Bool) → Unmarked ≡ cond b Unmarked Unmarked
+    none true = refl
+    none false = refl
+mark-entry-wiped s (x ∷ t) j zero = mark-wiped s x j
+mark-entry-wiped s (x ∷ t) j (suc p) = mark-entry-wiped s t j p
+
+-- the lists have their lengths, the rows of marks too
+pub record Full (t : List Profile) : Type 0 where
+  pub modes : Whole t
+  pub marks : (p : ℕ) → p < 64 → length (getD t p noProfile .marks) ≡ 16
+
+pub full-wiped : (s : Set) (t : List Profile) → Full t → Full (map (wiped s) t)
+full-wiped s t w = record { modes = whole-wiped s t (w .modes); marks = λ p h. kept t p ∙ w .marks p h }
+  where
+    kept : (t : List Profile) (p : ℕ) → length (getD (map (wiped s) t) p noProfile .marks) ≡ length (getD t p noProfile .marks)
+    kept [] p = refl
+    kept (x ∷ t) zero = marks-wiped s x
+    kept (x ∷ t) (suc p) = kept t p
+
+pub full-set : (t : List Profile) (p : ℕ) (x : Profile) → Full t → p < 64 → length (x .row) ≡ 16 → length (x .marks) ≡ 16 → Full (set t p x)
+full-set t p x w h e k = record { modes = whole-set t p x (w .modes) h e; marks = λ q b. by-test q b (eqb q p) refl }
+  where
+    by-test : (q : ℕ) → q < 64 → (b : Bool) → eqb q p ≡ b → length (getD (set t p x) q noProfile .marks) ≡ 16
+    by-test q b true d =
+        let same : q ≡ p = eqb-true q p d in
+        rw (same, getD-set-same t p x noProfile (rw (w .modes .count) h)) k
+    by-test q b false d = rw (getD-set-other t p q x noProfile (eqb-false q p d)) (w .marks q b)
