@@ -169,8 +169,8 @@ impl Server {
         s.profiles[at] = next_profile;
         if greeted {
             let profiles = s.profiles;
-            let wiped = profile::wipe_all(profiles, hear::only(i));
-            s.profiles = wiped;
+            let left = profile::wipe_all(profiles, hear::only(i));
+            s.profiles = left;
         }
         Served { server: s, answer }
     }
