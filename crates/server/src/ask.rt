@@ -5,11 +5,10 @@ use crate::mark::Change;
 use crate::mark::EVERYONE;
 use crate::mark::Which;
 use crate::member;
-use crate::member::Member;
+use crate::member::Members;
 use crate::profile::Profile;
 use crate::row;
 use modes::Mode;
-use timing::settings::Settings;
 ghost use mathlib.Core.Path.{_≡_};
 ghost use Rattle.server.specs.Sets.{liveSet};
 ghost use Rattle.server.specs.Ask.{askRule};
@@ -23,7 +22,7 @@ pub struct Ruled {
 pub fn ask(
     profile: Profile,
     number: u8,
-    members: [Member; Settings::STATIONS],
+    members: Members,
     me: usize,
     asked: Mode,
     now: u64,

@@ -3,6 +3,7 @@ use crate::ask;
 use crate::event::Answer;
 use crate::event::Request;
 use crate::member::Member;
+use crate::member::Members;
 use crate::member::Status;
 use crate::profile::Profile;
 use timing::settings::Settings;
@@ -48,7 +49,7 @@ fn greeted(member: Member, profile: Profile) -> Heard
 fn heed(
     member: Member,
     profile: Profile,
-    members: [Member; Settings::STATIONS],
+    members: Members,
     now: u64,
     me: usize,
     request: Request,
@@ -95,7 +96,7 @@ fn welcome(member: Member, profile: Profile, request: Request) -> Heard
 pub fn hear(
     member: Member,
     profile: Profile,
-    members: [Member; Settings::STATIONS],
+    members: Members,
     now: u64,
     me: usize,
     number: u32,

@@ -17,6 +17,9 @@ pub struct Member {
     pub last: u32,
 }
 
+// One for each station.
+pub type Members = [Member; Settings::STATIONS];
+
 // Which stations are asked for: the live ones, or those timing out for `wait` or more ticks at the reading `now`.
 pub enum Which {
     Live,
@@ -50,7 +53,7 @@ pub fn passed(since: u64, length: u64, now: u64) -> bool
     length <= now - since
 }
 
-pub fn members_in(members: [Member; Settings::STATIONS], which: Which) -> u64
+pub fn members_in(members: Members, which: Which) -> u64
     ensures { λ r. ⌜ r ≡ mask (membersWith (statusTest which) members) ⌝ }
 {
     let mut mask: u64 = 0;
@@ -77,11 +80,7 @@ fn turned(member: Member, w: u64, status: Status) -> Member
 }
 
 // The stations of a set get a new status.
-pub fn turn_in(
-    members: [Member; Settings::STATIONS],
-    set: u64,
-    status: Status,
-) -> [Member; Settings::STATIONS]
+pub fn turn_in(members: Members, set: u64, status: Status) -> Members
     ensures { λ r. ⌜ r ≡ changeUnder (restatus status) set members ⌝ }
 {
     let mut next = members;

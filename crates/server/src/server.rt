@@ -5,6 +5,7 @@ use crate::event::Request;
 use crate::hear;
 use crate::member;
 use crate::member::Member;
+use crate::member::Members;
 use crate::member::Status;
 use crate::member::Which;
 use crate::profile;
@@ -22,7 +23,7 @@ ghost use Rattle.server.specs.Step.{profileOf, made, message, tick, step
 pub struct Server {
     settings: Settings,
     reading: u64,
-    members: [Member; Settings::STATIONS],
+    members: Members,
     profiles: [Profile; Settings::PROFILES],
 }
 
