@@ -1,4 +1,5 @@
 // The lines that read and write a record.
+use crate::hex::MOST;
 use crate::hex::next_hex;
 use crate::hex::put_hex;
 use crate::print::put;
@@ -14,6 +15,9 @@ use crate::words::next_u64;
 use record::Message;
 use record::Put;
 use record::Read;
+
+// What the buffer of a `write` line holds before it.
+const UNWRITTEN: u8 = 0xEE;
 
 struct Fields {
     message: Message,
@@ -85,13 +89,13 @@ fn put_read(out: &mut [u8], at: usize, bytes: &[u8], count: usize, from: usize) 
 
 // After the word `write`.
 pub(crate) fn write_line(s: &[u8], place: usize, out: &mut [u8], at: usize) -> usize {
-    let room = next_number(s, place, 64);
+    let room = next_number(s, place, MOST as u64);
     let from = next_u64(s, room.end);
     let told = next_fields(s, from.end);
     if told.end != s.len() {
         return put_line(out, at, b"bad line");
     }
-    let mut buffer = [0xEEu8; 64];
+    let mut buffer = [UNWRITTEN; MOST];
     let m = told.message;
     put_written(
         out,

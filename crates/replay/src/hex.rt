@@ -5,16 +5,19 @@ use crate::words::is_word;
 use crate::words::next_word;
 ghost use Prim.Native.Nat.{_<_};
 
-// At most 64 bytes; the first `count` of them stand in the line.
+// A line holds at most this many.
+pub(crate) const MOST: usize = 64;
+
+// The first `count` bytes stand in the line.
 pub(crate) struct Hex {
-    pub(crate) bytes: [u8; 64],
+    pub(crate) bytes: [u8; MOST],
     pub(crate) count: usize,
     pub(crate) end: usize,
 }
 
 fn nothing() -> Hex {
     Hex {
-        bytes: [0; 64],
+        bytes: [0; MOST],
         count: 0,
         end: NOWHERE,
     }
@@ -40,13 +43,13 @@ fn nibble(b: u8) -> u8 {
 // The bytes of a word; `end` is the place after it.
 fn bytes_of(text: &[u8], end: usize) -> Hex {
     let count = text.len() / 2;
-    if 64 < count {
+    if MOST < count {
         return nothing();
     }
     if text.len() != count * 2 {
         return nothing();
     }
-    let mut bytes = [0u8; 64];
+    let mut bytes = [0u8; MOST];
     let mut i = 0;
     while i < count {
         let high = nibble(text[i * 2]);
@@ -70,7 +73,7 @@ pub(crate) fn next_hex(s: &[u8], place: usize) -> Hex {
     let end = w.end;
     if is_word(s, w, b"-") {
         return Hex {
-            bytes: [0; 64],
+            bytes: [0; MOST],
             count: 0,
             end,
         };

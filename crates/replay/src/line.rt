@@ -125,7 +125,7 @@ fn is_silent(line: &[u8], count: usize) -> bool {
 }
 
 // Before the first settings line.
-fn unset(said: Line) -> Line {
+fn without_settings(said: Line) -> Line {
     match said {
         Line::Settings(settings) => Line::Settings(settings),
         Line::Server(_, _) => Line::Plain(Plain::NoSettings),
@@ -150,5 +150,5 @@ pub(crate) fn meant(line: &[u8], count: usize, whole: bool, ready: bool) -> Line
     if ready {
         return said;
     }
-    unset(said)
+    without_settings(said)
 }

@@ -1,5 +1,5 @@
-// The output buffer: what is put goes to a place of it, and the place after it comes back. What does not fit is not put;
-// the buffer is written out before a line could be too long for it.
+// The output buffer: what is put goes to a place of it, and the place after it comes back. What does not fit is not put,
+// and the buffer is written out before a line could be too long for it.
 use libc::STDOUT_FILENO;
 
 // No answer is longer: a refused `write` line has the most, 64 bytes as pairs of digits.

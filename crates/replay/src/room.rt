@@ -15,8 +15,10 @@ use crate::words::next_word;
 use modes::Mode;
 use station::event::Event;
 use station::event::Request;
+use timing::settings::Settings;
 
-const LAST_ROOM: u64 = 15;
+// Rooms count from 0.
+const LAST_ROOM: u64 = Settings::STATIONS as u64 - 1;
 
 fn sent(room: usize, reading: u64, request: Request) -> Line {
     Line::Room(room, reading, Event::Send(request))

@@ -134,7 +134,7 @@ pub(crate) fn next_u64(s: &[u8], place: usize) -> Number {
 }
 
 pub(crate) fn next_u32(s: &[u8], place: usize) -> Number32 {
-    let n = next_number(s, place, 4_294_967_295);
+    let n = next_number(s, place, u32::MAX as u64);
     Number32 {
         value: n.value as u32,
         end: n.end,
@@ -142,7 +142,7 @@ pub(crate) fn next_u32(s: &[u8], place: usize) -> Number32 {
 }
 
 pub(crate) fn next_u8(s: &[u8], place: usize) -> Number8 {
-    let n = next_number(s, place, 255);
+    let n = next_number(s, place, u8::MAX as u64);
     Number8 {
         value: n.value as u8,
         end: n.end,

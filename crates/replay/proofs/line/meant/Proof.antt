@@ -26,8 +26,8 @@ line-of-requires c κs = search needs
 returns-4 : tie.Need-returns-4
 returns-4 c = search needs
 
-unset-requires : tie.Need-unset-requires
-unset-requires c κs = search needs
+without-settings-requires : tie.Need-without-settings-requires
+without-settings-requires c κs = search needs
 
 returns-5 : tie.Need-returns-5
 returns-5 c = search needs
@@ -43,5 +43,5 @@ meant-spec =
     slice-aggregate-line-of
     line-of-requires
     returns-4
-    unset-requires
+    without-settings-requires
     returns-5)
