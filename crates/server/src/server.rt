@@ -150,50 +150,51 @@ impl Server {
         }
     }
 
-    fn message(self, reading: u64, station: u8, number: u32, request: Request) -> Served
+    fn message(mut self, reading: u64, station: u8, number: u32, request: Request) -> Served
         requires { ⌜ (station < mostStations) × (profileOf request < mostProfiles) ⌝ }
         ensures { λ r. ⌜ r ≡ message self reading station number request ⌝ }
     {
-        let mut s = self;
         let i = station as usize;
         let at = profile_of(request) as usize;
-        let members = s.members;
-        let member = s.members[i];
-        let profile = s.profiles[at];
+        let members = self.members;
+        let member = self.members[i];
+        let profile = self.profiles[at];
         let heard = hear::hear(member, profile, members, reading, i, number, request);
         let next_member = heard.member;
         let next_profile = heard.profile;
         let greeted = heard.greeted;
         let answer = heard.answer;
-        s.reading = reading;
-        s.members[i] = next_member;
-        s.profiles[at] = next_profile;
+        self.reading = reading;
+        self.members[i] = next_member;
+        self.profiles[at] = next_profile;
         if greeted {
-            let profiles = s.profiles;
+            let profiles = self.profiles;
             let left = profile::wipe_all(profiles, hear::only(i));
-            s.profiles = left;
+            self.profiles = left;
         }
-        Served { server: s, answer }
+        Served {
+            server: self,
+            answer,
+        }
     }
 
-    fn tick(self, reading: u64) -> Served
+    fn tick(mut self, reading: u64) -> Served
         ensures { λ r. ⌜ r ≡ tick (waitAnswer (self .settings)) self reading ⌝ }
     {
-        let mut s = self;
-        let wait = s.settings.wait();
-        let members = s.members;
+        let wait = self.settings.wait();
+        let members = self.members;
         let freed = member::members_in(members, Which::Waited { now: reading, wait });
         let after = member::turn_in(members, freed, Status::Unknown);
-        let profiles = s.profiles;
+        let profiles = self.profiles;
         let wiped = profile::wipe_all(profiles, freed);
-        let late = profile::late(wiped, reading, s.settings.answer_time());
+        let late = profile::late(wiped, reading, self.settings.answer_time());
         let started = late & member::members_in(after, Which::Live);
         let next = member::turn_in(after, started, Status::TimingOut(reading));
-        s.reading = reading;
-        s.members = next;
-        s.profiles = wiped;
+        self.reading = reading;
+        self.members = next;
+        self.profiles = wiped;
         Served {
-            server: s,
+            server: self,
             answer: Answer::Ticked(freed, started),
         }
     }

@@ -47,13 +47,13 @@ returns : tie.Need-returns
 returns c =
     let a = c .before .before .before .before .before .before .before .before .before .before .before .args in
     let h = c .before .before .before .before .before .before .hear in
-    put-back (a .self) (a .reading) (a .station) (a .number) (a .request) _ (c .before .before .before .before .before .before .before .before .before .before .profile-of .ensures) _ (h .ensures) _ (greeted-all (a .self) (a .reading) (a .station) (a .number) (a .request) _ (c .before .before .before .before .before .before .before .before .before .before .profile-of .ensures) _ (h .ensures) (c .before .before .before .if1 .taken) _ (c .before .only .ensures) _ (c .wipe-all .ensures))
+    put-back (a .t1) (a .reading) (a .station) (a .number) (a .request) _ (c .before .before .before .before .before .before .before .before .before .before .profile-of .ensures) _ (h .ensures) _ (greeted-all (a .t1) (a .reading) (a .station) (a .number) (a .request) _ (c .before .before .before .before .before .before .before .before .before .before .profile-of .ensures) _ (h .ensures) (c .before .before .before .if1 .taken) _ (c .before .only .ensures) _ (c .wipe-all .ensures))
 
 returns-2 : tie.Need-returns-2
 returns-2 c =
     let a = c .before .before .before .before .before .before .before .before .args in
     let h = c .before .before .before .hear in
-    put-back (a .self) (a .reading) (a .station) (a .number) (a .request) _ (c .before .before .before .before .before .before .before .profile-of .ensures) _ (h .ensures) _ (greeted-not (a .self) (a .reading) (a .station) (a .number) (a .request) _ (c .before .before .before .before .before .before .before .profile-of .ensures) _ (h .ensures) (c .if1 .left))
+    put-back (a .t1) (a .reading) (a .station) (a .number) (a .request) _ (c .before .before .before .before .before .before .before .profile-of .ensures) _ (h .ensures) _ (greeted-not (a .t1) (a .reading) (a .station) (a .number) (a .request) _ (c .before .before .before .before .before .before .before .profile-of .ensures) _ (h .ensures) (c .if1 .left))
 
 pub message-spec : {M : Type 1} → statement M
 message-spec =
