@@ -1,25 +1,25 @@
 // Plain words and numbers on standard output.
 use libc::STDOUT_FILENO;
 
-pub fn text(words: &[u8]) {
+pub(crate) fn text(words: &[u8]) {
     io::write_all(STDOUT_FILENO, words);
 }
 
-pub fn number(n: u64) {
+pub(crate) fn number(n: u64) {
     io::print_decimal(STDOUT_FILENO, n);
 }
 
-pub fn line_end() {
+pub(crate) fn line_end() {
     text(b"\n");
 }
 
-pub fn refused(n: u8) {
+pub(crate) fn refused(n: u8) {
     text(b"refused ");
     number(n as u64);
 }
 
 // The cases have no other number of ticks.
-pub fn signed(n: i64) {
+pub(crate) fn signed(n: i64) {
     if n == 0 {
         text(b"0");
     } else if n == -1 {
@@ -43,7 +43,7 @@ fn digit(n: u8) {
 }
 
 // Eleven bytes in upper case, a space between two.
-pub fn bytes(buf: [u8; 11]) {
+pub(crate) fn bytes(buf: [u8; 11]) {
     let mut i: usize = 0;
     while i < 11 {
         if 0 < i {

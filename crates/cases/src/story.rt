@@ -86,7 +86,7 @@ fn waited(server: Server) -> Server {
     at(seven, 8, Event::Tick, b"freed 0 started 1")
 }
 
-pub fn played() {
+pub(crate) fn played() {
     let late = waited(opened());
     let silent = at(late, 9, Event::Message(0, 3, Request::KeepAlive), b"NACK 0");
     let nineteen = at(silent, 19, Event::Tick, b"freed 0 started 0");
