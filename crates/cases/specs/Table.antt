@@ -1,6 +1,6 @@
 -- 'Checked by hand', the rows marked (P): one table, about the definitions that the contracts cite.
 use mathlib.Core.Path.{_≡_}
-use mathlib.Core.List.{List, [], _∷_}
+use mathlib.Core.List.{List, [], _∷_, _++_}
 use Prim.Native.Nat.{ℕ}
 use lib.IntN.{ℤ, pos, negsuc}
 use Rattle.modes.specs.Modes.{mode, R, W, X}
@@ -67,14 +67,11 @@ opening = at 0 (Says 0 1 Hello) ∷ at 0 (Says 1 1 Hello) ∷ at 0 (Says 0 2 (As
 -- ".. At 3 station 1 asks R .. Ticks 4 to 7"
 abbrev pub asked : List Occurs
 asked =
-    at 0 (Says 0 1 Hello) ∷ at 0 (Says 1 1 Hello) ∷ at 0 (Says 0 2 (Ask 0 (mode X))) ∷ at 3 (Says 1 2 (Ask 0 (mode R)))
-    ∷ at 4 Tick ∷ at 5 Tick ∷ at 6 Tick ∷ at 7 Tick ∷ []
+    opening ++ (at 3 (Says 1 2 (Ask 0 (mode R))) ∷ at 4 Tick ∷ at 5 Tick ∷ at 6 Tick ∷ at 7 Tick ∷ [])
 
 -- ".. Tick 8 .. Its keep-alive at 9"
 abbrev pub late : List Occurs
-late =
-    at 0 (Says 0 1 Hello) ∷ at 0 (Says 1 1 Hello) ∷ at 0 (Says 0 2 (Ask 0 (mode X))) ∷ at 3 (Says 1 2 (Ask 0 (mode R)))
-    ∷ at 4 Tick ∷ at 5 Tick ∷ at 6 Tick ∷ at 7 Tick ∷ at 8 Tick ∷ at 9 (Says 0 3 KeepAlive) ∷ []
+late = asked ++ (at 8 Tick ∷ at 9 (Says 0 3 KeepAlive) ∷ [])
 
 unfoldable pub table : List Row
 table =
