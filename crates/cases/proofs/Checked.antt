@@ -12,7 +12,7 @@ use Rattle.server.specs.Hear.{heed, welcome, byStatus, ifNew, hear}
 use Rattle.server.specs.Refusal.{refusal}
 use Rattle.server.specs.Tick.{free, startedSet, start}
 use Rattle.server.specs.Step.{message, tick, step}
-use Rattle.station.specs.Stage.{phaseAt}
+use Rattle.room.specs.Stage.{phaseAt}
 use Rattle.cases.specs.Table.{table, Every}
 
 pub checked : Every table

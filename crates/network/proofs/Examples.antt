@@ -18,17 +18,17 @@ use Rattle.server.specs.Border as server-border
 use Rattle.server.specs.Border.{sentFor}
 use Rattle.server.specs.Step.{step as serverStep}
 use Rattle.server.specs.declared.event.Event.the-variants as server-event
-use Rattle.server.specs.declared.event.Request.the-variants as server-request
+use Rattle.requests.specs.Request as requests
 use Rattle.server.specs.declared.event.Answer.{Answer}
 use Rattle.server.specs.declared.event.Answer.the-variants as says
 use Rattle.record.specs.declared.message.Message.{Message}
 use Rattle.modes.specs.Modes.{mode, R}
-use Rattle.station.specs.declared.event.Request.the-variants.{Ask}
-use Rattle.station.specs.declared.event.Event.the-variants.{Send}
-use Rattle.station.specs.Hold.{noHolds}
-use Rattle.station.specs.Stage.{phaseAt}
-use Rattle.station.specs.Refusal as room-refusal
-use Rattle.station.specs.Rules as rules
+use Rattle.requests.specs.declared.Request.the-variants.{Ask}
+use Rattle.room.specs.declared.event.Event.the-variants.{Send}
+use Rattle.room.specs.Hold.{noHolds}
+use Rattle.room.specs.Stage.{phaseAt}
+use Rattle.room.specs.Refusal as room-refusal
+use Rattle.room.specs.Rules as rules
 use Rattle.station.specs.Effect as effect
 use Rattle.station.specs.Station as room
 use Rattle.station.specs.Border as room-border
@@ -40,7 +40,7 @@ use Rattle.network.specs.Examples.{small, at, after, waits, demand, gree
 
 -- names all that a step computes with, so that one word opens it
 engines : ℕ
-unfolding run next worldAtFirst wait newServer wiped conflicts askRule phaseAfter noHolds phaseAt settings.lengthsGood settings.rateGood settings.countsGood hear.heed hear.welcome hear.byStatus hear.ifNew hear.hear tick.free tick.startedSet tick.start server-refusal.refusal server.message server.tick server.step server-border.eventOf server-border.sentFor room-refusal.refusal room-refusal.phaseRefusal room-refusal.useRefusal rules.sendRefusal rules.beginRefusal rules.editRefusal rules.endRefusal rules.writeOutRefusal rules.demandRefusal rules.fits rules.ackForbids rules.nackForbids effect.advised room.newStation room.endedIf room.after room.ifAllowed room.ifGood room.step room.phaseAsked room.mayUse room-border.eventOf room-border.messageOf room-border.sentBy modes.isMode modes.goesWith modes.covers modes.join modes.writes
+unfolding run next worldAtFirst wait newServer wiped conflicts askRule phaseAfter noHolds phaseAt settings.lengthsGood settings.rateGood settings.countsGood hear.heed hear.welcome hear.byStatus hear.ifNew hear.hear tick.free tick.startedSet tick.start server-refusal.refusal server.message server.tick server.step server-border.eventOf server-border.sentFor room-refusal.refusal room-refusal.phaseRefusal room-refusal.useRefusal rules.sendRefusal rules.beginRefusal rules.editRefusal rules.endRefusal rules.writeOutRefusal rules.demandRefusal rules.fits rules.ackForbids rules.nackForbids effect.advised room.newStation room.endedIf room.after room.ifAllowed room.ifGood room.step room.phaseAsked room.mayUse room-border.eventOf requests.requestOf requests.messageOf room-border.sentBy modes.isMode modes.goesWith modes.covers modes.join modes.writes
 engines = 0
 
 record Told (t : ℕ) (h : List Moment) : Type 0 where
@@ -101,26 +101,10 @@ told₂ =
     (on 1 (lit≤ tt) _ (lit< tt, refl)
     told-holding))
 
--- what the server says to station 1: to wait; and to station 0: the demand
-told-to-wait : sentFor 1 2 (says.Wait 0 (mode R) 1 1) ≡ waits 1 2 ∷ demand 0 R ∷ []
-unfolding sentFor
-told-to-wait = refl
-
-abbrev asking : List Moment
-asking = at 1 (does 1 (Send (Ask 0 (mode R)))) ∷ holding
-
-answered : serverStep (wait small) (after asking .server) 1 (server-event.Message 1 2 (server-request.Ask 0 (mode R))) .answer ≡ says.Wait 0 (mode R) 1 1
-unfolding engines
-answered = refl
-
-demand-sent : List·Memᴰ (demand 0 R) (after demanded .down)
-unfolding run next server-border.eventOf room-border.eventOf
-demand-sent =
-    subst (λ (a : Answer). List·Memᴰ (demand 0 R) (sentFor 1 2 a ++ after asking .down)) (sym answered)
-    (subst (λ (l : List Message). List·Memᴰ (demand 0 R) (l ++ after asking .down)) (sym told-to-wait) (List·Memᴰ·tail (List·Memᴰ·head refl)))
-
+-- the server tells station 1 to wait, and station 0 of the demand
 told-demanded : Told 2 (at 2 (gets 0 (demand 0 R)) ∷ demanded)
-told-demanded = on 2 (lit≤ tt) _ (lit< tt, demand-sent) told₂
+unfolding engines
+told-demanded = on 2 (lit≤ tt) _ (lit< tt, List·Memᴰ·tail (List·Memᴰ·head refl)) told₂
 
 told-released : Told 3 released
 unfolding engines

@@ -24,8 +24,8 @@ use Rattle.server.specs.declared.member.Status.the-variants.{Unknown, Live, Tim
 use Rattle.server.specs.declared.member.Member.{Member}
 use Rattle.server.specs.declared.profile.Profile.{Profile}
 use Rattle.server.specs.declared.server.Served.{Served}
-use Rattle.server.specs.declared.event.Request.{Request}
-use Rattle.server.specs.declared.event.Request.the-variants.{Hello, KeepAlive, Ask, Release, Keep}
+use Rattle.requests.specs.declared.Request.{Request}
+use Rattle.requests.specs.declared.Request.the-variants.{Hello, KeepAlive, Ask, Release, Keep}
 use Rattle.server.specs.declared.event.Event.the-variants.{Message as Said}
 use Rattle.server.specs.declared.event.Answer.{Answer}
 use Rattle.server.specs.declared.event.Answer.the-variants.{Done, Granted, Wait, InUse, Nack, Refused}
@@ -35,12 +35,14 @@ use Rattle.server.specs.Sets.{only, wiped, liveSet, isKept, marksWith}
 use Rattle.server.specs.Ask.{wantedBy, inTheWay, keptOrWait, freeOrNot, askRule}
 use Rattle.server.specs.Hear.{answered, greeted, ruledFor, numbered, heed, welcome, byStatus, ifNew, hear}
 use Rattle.server.specs.Refusal.{refusal}
-use Rattle.server.specs.Step.{profileOf, afterHeard, message, ifGood, step}
-use Rattle.server.specs.Border.{sentFor, meantAs, eventOf}
+use Rattle.requests.specs.Request.{profileOf}
+use Rattle.server.specs.Step.{afterHeard, message, ifGood, step}
+use Rattle.requests.specs.Request.{askedAs, requestOf}
+use Rattle.server.specs.Border.{sentFor, meantBy, eventOf}
 use Rattle.server.proofs.Frames.{entry, only-same, only-other, mode-wiped, width-wiped, entry-wiped, whole-wiped, entry-set-same, entry-set-other, whole-set, nobody-clashes}
 use Rattle.server.proofs.Refusals.{station-below, profile-below}
 use Rattle.server.proofs.Sent.{Sure, acks-of}
-use Rattle.station.specs.Stage.{isOut}
+use Rattle.room.specs.Stage.{isOut}
 use Rattle.station.specs.Station.{modeOf}
 use Rattle.network.specs.Picture.{World, Moment, withServer, hearing}
 use Rattle.network.proofs.Pair.{Known, Inv}
@@ -311,7 +313,7 @@ module _ (z : Settings) (good : inRange z ≡ true) (w : World) (h : List Moment
     unfolding step
     on-request q means = on-refusal q means (refusal (w .server .settings) (w .server .reading) now (Said (m .station) (m .number) q)) refl
 
-    by-kind : (n : ℕ) → m .kind ≡ n → Sound z (hearing wait w now m (meantAs n m)) h cs
+    by-kind : (n : ℕ) → m .kind ≡ n → Sound z (hearing wait w now m (meantBy m (askedAs n m))) h cs
     by-kind (suc zero) e = on-request Hello e
     by-kind (suc (suc zero)) e = on-request KeepAlive tt
     by-kind (suc (suc (suc zero))) e = on-request (Ask (m .profile) (mode (m .mode))) tt
@@ -321,5 +323,5 @@ module _ (z : Settings) (good : inRange z ≡ true) (w : World) (h : List Moment
     by-kind (suc (suc (suc (suc (suc (suc n)))))) e = I
 
     pub hears-sound : Sound z (hearing wait w now m (eventOf m)) h cs
-    unfolding eventOf
+    unfolding eventOf requestOf
     hears-sound = by-kind (m .kind) refl

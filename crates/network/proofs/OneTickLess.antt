@@ -24,11 +24,8 @@ use Rattle.server.specs.declared.member.Status.the-variants.{Unknown, Live, Tim
 use Rattle.server.specs.declared.mark.Mark.{Mark}
 use Rattle.server.specs.declared.mark.Mark.the-variants.{Unmarked, Demanded}
 use Rattle.server.specs.declared.event.Event.the-variants as server
-use Rattle.server.specs.declared.event.Request.{Request as ServerRequest}
-use Rattle.server.specs.declared.event.Request.the-variants as to-say
 use Rattle.server.specs.declared.event.Answer.{Answer as ServerAnswer}
 use Rattle.server.specs.declared.event.Answer.the-variants as says
-use Rattle.server.specs.declared.border.Meant.the-variants as to-server
 use Rattle.server.specs.State.{nobody, noMark, emptyProfile, newServer}
 use Rattle.server.specs.Sets.{wiped, conflicts}
 use Rattle.server.specs.Ask.{askRule}
@@ -36,27 +33,31 @@ use Rattle.server.specs.Hear.{heed, welcome, byStatus}
 use Rattle.server.specs.Tick.{free, startedSet, start}
 use Rattle.server.specs.Refusal.{eventRefusal}
 use Rattle.server.specs.Step.{tick, step as serverStep}
-use Rattle.server.specs.Border.{sentFor, eventOf as serverEvent, message}
+use Rattle.server.specs.Border.{sentFor}
+use Rattle.server.proofs.Sent.{heard-back}
+use Rattle.record.specs.Message.{message}
 use Rattle.station.specs.declared.station.Station.{Station}
-use Rattle.station.specs.declared.hold.Hold.{Hold}
-use Rattle.station.specs.declared.stage.Standing.{Standing}
-use Rattle.station.specs.declared.stage.Standing.the-variants.{Out, Open}
-use Rattle.station.specs.declared.event.Request.{Request}
-use Rattle.station.specs.declared.event.Request.the-variants.{Hello, KeepAlive, Ask}
-use Rattle.station.specs.declared.event.Waiting.{Waiting}
-use Rattle.station.specs.declared.event.Waiting.the-variants.{Nothing, Sent}
-use Rattle.station.specs.declared.event.Ack.{Ack}
-use Rattle.station.specs.declared.event.Ack.the-variants.{Done, Granted}
-use Rattle.station.specs.declared.event.Event.the-variants.{Send, Restart, Ack as Acked}
+use Rattle.room.specs.declared.hold.Hold.{Hold}
+use Rattle.room.specs.declared.stage.Standing.{Standing}
+use Rattle.room.specs.declared.stage.Standing.the-variants.{Out, Open}
+use Rattle.requests.specs.declared.Request.{Request}
+use Rattle.requests.specs.declared.Request.the-variants.{Hello, KeepAlive, Ask}
+use Rattle.room.specs.declared.event.Waiting.{Waiting}
+use Rattle.room.specs.declared.event.Waiting.the-variants.{Nothing, Sent}
+use Rattle.room.specs.declared.event.Ack.{Ack}
+use Rattle.room.specs.declared.event.Ack.the-variants.{Done, Granted}
+use Rattle.room.specs.declared.event.Event.the-variants.{Send, Restart, Ack as Acked}
 use Rattle.station.specs.declared.event.Answer.the-variants as answer
 use Rattle.station.specs.declared.event.UseAnswer.the-variants.{Yes}
 use Rattle.station.specs.declared.border.Meant.the-variants as to-room
-use Rattle.station.specs.Hold.{noHold, noHolds}
-use Rattle.station.specs.Refusal.{requestRefusal, ackRefusal}
-use Rattle.station.specs.Rules.{lastNumber, sendRefusal, fits, ackProfile, ackForbids}
+use Rattle.room.specs.Hold.{noHold, noHolds}
+use Rattle.requests.specs.Request.{requestRefusal}
+use Rattle.room.specs.Refusal.{ackRefusal}
+use Rattle.room.specs.Rules.{lastNumber, sendRefusal, fits, ackProfile, ackForbids}
 use Rattle.station.specs.Effect.{holdsSent, holdsAcked}
 use Rattle.station.specs.Station.{newStation, isOver, forbids, after, stepped, step as roomStep, mayUse, modeOf}
-use Rattle.station.specs.Border.{messageOf, sentBy, eventOf as roomEvent}
+use Rattle.requests.specs.Request.{messageOf}
+use Rattle.station.specs.Border.{sentBy, eventOf as roomEvent}
 use Rattle.network.specs.Picture.{worldAtFirst, Moment, Happening, nothing, run}
 use Rattle.network.specs.Premises.{Clocks, begins}
 use Rattle.network.specs.Claims.{Breach, OneTickLess}
@@ -121,27 +122,25 @@ module _ (z : Settings) (good : inRange z ≡ true) (two : 2 ≤ z .stations) (w
   put₁ r r₀ r₁ (suc (suc j)) = rw (ne-eqb (suc (suc j)) 1 (λ e. omega arith))
 
   -- the three exchanges of the story: what is said, what is answered, and the mode on profile 0 before and after
-  record Exchange (q : Request) (q′ : ServerRequest) (a : Ack) (A : ServerAnswer) (x x′ : ℕ) : Type 0 where
+  record Exchange (q : Request) (a : Ack) (A : ServerAnswer) (x x′ : ℕ) : Type 0 where
     back : ℕ → ℕ → Message
     named : requestRefusal (z .profiles) q ≡ 0
     same : (l : List Hold) → holdsSent l q ≡ l
     sent : (i k : ℕ) → sentBy i (answer.Sent k q) ≡ messageOf i k q ∷ []
-    meant : (i k : ℕ) → serverEvent (messageOf i k q) ≡ to-server.For (server.Message i k q′)
     answered : (i k : ℕ) → sentFor (messageOf i k q .station) (messageOf i k q .number) A ≡ back i k ∷ []
     told : (i k : ℕ) → roomEvent (back i k) ≡ to-room.For (Acked i k a)
     named-back : ackRefusal (z .profiles) a ≡ 0
     fitting : (i c start k : ℕ) (σ : Standing) (wt : Waiting) → fits q (modeOf (rm i c σ start k wt x) (ackProfile a)) a ≡ true
     gained : holdsAcked (hs x) a ≡ hs x′
 
-  hello : (x : ℕ) → Exchange Hello to-say.Hello Done says.Done x x
-  unfolding messageOf serverEvent sentFor roomEvent fits sentBy
+  hello : (x : ℕ) → Exchange Hello Done says.Done x x
+  unfolding messageOf sentFor roomEvent fits sentBy
   hello x =
       record {
         back = λ i k. message 6 i k 255 0 0;
         named = refl;
         same = λ l. refl;
         sent = λ i k. refl;
-        meant = λ i k. refl;
         answered = λ i k. refl;
         told = λ i k. refl;
         named-back = refl;
@@ -149,15 +148,14 @@ module _ (z : Settings) (good : inRange z ≡ true) (two : 2 ≤ z .stations) (w
         gained = refl;
       }
 
-  alive : (x : ℕ) → Exchange KeepAlive to-say.KeepAlive Done says.Done x x
-  unfolding messageOf serverEvent sentFor roomEvent fits sentBy
+  alive : (x : ℕ) → Exchange KeepAlive Done says.Done x x
+  unfolding messageOf sentFor roomEvent fits sentBy
   alive x =
       record {
         back = λ i k. message 6 i k 255 0 0;
         named = refl;
         same = λ l. refl;
         sent = λ i k. refl;
-        meant = λ i k. refl;
         answered = λ i k. refl;
         told = λ i k. refl;
         named-back = refl;
@@ -165,15 +163,14 @@ module _ (z : Settings) (good : inRange z ≡ true) (two : 2 ≤ z .stations) (w
         gained = refl;
       }
 
-  ask : Exchange (Ask 0 (mode X)) (to-say.Ask 0 (mode X)) (Granted 0 (mode X)) (says.Granted 0 (mode X)) 0 X
-  unfolding messageOf serverEvent sentFor roomEvent fits sentBy isMode covers
+  ask : Exchange (Ask 0 (mode X)) (Granted 0 (mode X)) (says.Granted 0 (mode X)) 0 X
+  unfolding messageOf sentFor roomEvent fits sentBy isMode covers
   ask =
       record {
         back = λ i k. message 6 i k 0 X 1;
         named = rw (lt-leb (z .profiles) 0 any₀);
         same = λ l. refl;
         sent = λ i k. refl;
-        meant = λ i k. refl;
         answered = λ i k. refl;
         told = λ i k. refl;
         named-back = rw (lt-leb (z .profiles) 0 any₀);
@@ -208,66 +205,66 @@ module _ (z : Settings) (good : inRange z ≡ true) (two : 2 ≤ z .stations) (w
       (clocks : (old : Moment) (e : Happening) (i : ℕ) → Q old → i < z .stations → Clocks z old (record { server = c; rooms = cs; what = e }) i)
       (top : c ≤ readingLimit) (tops : (i : ℕ) → cs i ≤ readingLimit) where
     -- one message there and its ACK back
-    turn : {s : Server} {rooms : ℕ → Station} {q : Request} {q′ : ServerRequest} {a : Ack} {A : ServerAnswer} {x x′ : ℕ} → Story z w Q s rooms → Exchange q q′ a A x x′ →
+    turn : {s : Server} {rooms : ℕ → Station} {q : Request} {a : Ack} {A : ServerAnswer} {x x′ : ℕ} → Story z w Q s rooms → Exchange q a A x x′ →
         (i c₀ : ℕ) (σ : Standing) (start last : ℕ) (wt : Waiting) (s′ : Server) → i < z .stations → c₀ ≤ cs i → rooms i ≡ rm i c₀ σ start last wt x →
         isOver (rm i c₀ σ start last wt x) (cs i) ≡ false → forbids (rm i (cs i) σ start last wt x) (Send q) ≡ 0 →
-        serverStep w s c (server.Message i (last + 1) q′) ≡ record { server = s′; answer = A } →
+        serverStep w s c (server.Message i (last + 1) q) ≡ record { server = s′; answer = A } →
         Story z w Q s′ (put i (rm i (cs i) Open (cs i) (last + 1) Nothing x′) rooms)
-    turn {s} {rooms} {q} {q′} {a} {A} {x} {x′} S E i c₀ σ start last wt s′ here on is over may heard =
+    turn {s} {rooms} {q} {a} {A} {x} {x′} S E i c₀ σ start last wt s′ here on is over may heard =
         exchange z w Q c cs mine clocks S i here q (messageOf i (last + 1) q)
         (stepped (rm i (cs i) σ start (last + 1) (Sent q (cs i)) x) (answer.Sent (last + 1) q) 0 0)
         (ap (λ (v : Station). roomStep v (cs i) (Send q)) is ∙ sends i c₀ σ start last wt x (cs i) q here (tops i) on (E .named) (E .same) over may)
         (E .sent i (last + 1))
-        (server.Message i (last + 1) q′) (record { server = s′; answer = A }) (E .back i (last + 1)) []
-        (E .meant i (last + 1)) heard (E .answered i (last + 1))
+        (server.Message i (last + 1) q) (record { server = s′; answer = A }) (E .back i (last + 1)) []
+        (heard-back i (last + 1) q) heard (E .answered i (last + 1))
         (Acked i (last + 1) a) (stepped (rm i (cs i) Open (cs i) (last + 1) Nothing x′) answer.Done 0 0)
         (E .told i (last + 1))
         (takes i σ start (last + 1) x x′ (cs i) q a here (tops i) (E .named-back) (E .fitting i (cs i) start (last + 1) σ (Sent q (cs i))) (E .gained) over)
 
   -- the server's answers in the story
-  hello₀ : serverStep w (srv 0 0 0 Unknown Unknown 0 0 Unmarked) 0 (server.Message 0 1 to-say.Hello)
+  hello₀ : serverStep w (srv 0 0 0 Unknown Unknown 0 0 Unmarked) 0 (server.Message 0 1 Hello)
       ≡ record { server = srv 0 1 0 Live Unknown 0 0 Unmarked; answer = says.Done }
   unfolding byStatus welcome wiped
   hello₀ =
-      served.heard w (srv 0 0 0 Unknown Unknown 0 0 Unmarked) 0 0 1 to-say.Hello
-      (served.free z good 0 0 (server.Message 0 1 to-say.Hello) (rw (lt-leb (z .stations) 0 here₀)) zero-le zero-le) (lit< tt)
+      served.heard w (srv 0 0 0 Unknown Unknown 0 0 Unmarked) 0 0 1 Hello
+      (served.free z good 0 0 (server.Message 0 1 Hello) (rw (lt-leb (z .stations) 0 here₀)) zero-le zero-le) (lit< tt)
 
-  named₀ : (k : ℕ) → eventRefusal z (server.Message 0 k (to-say.Ask 0 (mode X))) ≡ 0
+  named₀ : (k : ℕ) → eventRefusal z (server.Message 0 k (Ask 0 (mode X))) ≡ 0
   unfolding isMode
   named₀ k = rw (lt-leb (z .stations) 0 here₀, lt-leb (z .profiles) 0 any₀)
 
-  named₁ : (k : ℕ) → eventRefusal z (server.Message 1 k (to-say.Ask 0 (mode X))) ≡ 0
+  named₁ : (k : ℕ) → eventRefusal z (server.Message 1 k (Ask 0 (mode X))) ≡ 0
   unfolding isMode
   named₁ k = rw (lt-leb (z .stations) 1 here₁, lt-leb (z .profiles) 0 any₀)
 
-  ask₀ : serverStep w (srv 0 1 0 Live Unknown 0 0 Unmarked) 0 (server.Message 0 2 (to-say.Ask 0 (mode X)))
+  ask₀ : serverStep w (srv 0 1 0 Live Unknown 0 0 Unmarked) 0 (server.Message 0 2 (Ask 0 (mode X)))
       ≡ record { server = srv 0 2 0 Live Unknown X 0 Unmarked; answer = says.Granted 0 (mode X) }
   unfolding byStatus heed askRule conflicts join goesWith
   ask₀ =
-      served.heard w (srv 0 1 0 Live Unknown 0 0 Unmarked) 0 0 2 (to-say.Ask 0 (mode X))
-      (served.free z good 0 0 (server.Message 0 2 (to-say.Ask 0 (mode X))) (named₀ 2) zero-le zero-le) (lit< tt)
+      served.heard w (srv 0 1 0 Live Unknown 0 0 Unmarked) 0 0 2 (Ask 0 (mode X))
+      (served.free z good 0 0 (server.Message 0 2 (Ask 0 (mode X))) (named₀ 2) zero-le zero-le) (lit< tt)
 
-  hello₁ : serverStep w (srv 0 2 0 Live Unknown X 0 Unmarked) 0 (server.Message 1 1 to-say.Hello)
+  hello₁ : serverStep w (srv 0 2 0 Live Unknown X 0 Unmarked) 0 (server.Message 1 1 Hello)
       ≡ record { server = srv 0 2 1 Live Live X 0 Unmarked; answer = says.Done }
   unfolding byStatus welcome wiped
   hello₁ =
-      served.heard w (srv 0 2 0 Live Unknown X 0 Unmarked) 0 1 1 to-say.Hello
-      (served.free z good 0 0 (server.Message 1 1 to-say.Hello) (rw (lt-leb (z .stations) 1 here₁)) zero-le zero-le) (lit< tt)
+      served.heard w (srv 0 2 0 Live Unknown X 0 Unmarked) 0 1 1 Hello
+      (served.free z good 0 0 (server.Message 1 1 Hello) (rw (lt-leb (z .stations) 1 here₁)) zero-le zero-le) (lit< tt)
 
   -- station 0 stands in the way, and is demanded
-  ask₁ : serverStep w (srv 0 2 1 Live Live X 0 Unmarked) 0 (server.Message 1 2 (to-say.Ask 0 (mode X)))
+  ask₁ : serverStep w (srv 0 2 1 Live Live X 0 Unmarked) 0 (server.Message 1 2 (Ask 0 (mode X)))
       ≡ record { server = srv 0 2 2 Live Live X 0 (Demanded 0); answer = says.Wait 0 (mode X) 1 1 }
   unfolding byStatus heed askRule conflicts join goesWith
   ask₁ =
-      served.heard w (srv 0 2 1 Live Live X 0 Unmarked) 0 1 2 (to-say.Ask 0 (mode X))
-      (served.free z good 0 0 (server.Message 1 2 (to-say.Ask 0 (mode X))) (named₁ 2) zero-le zero-le) (lit< tt)
+      served.heard w (srv 0 2 1 Live Live X 0 Unmarked) 0 1 2 (Ask 0 (mode X))
+      (served.free z good 0 0 (server.Message 1 2 (Ask 0 (mode X))) (named₁ 2) zero-le zero-le) (lit< tt)
 
-  alive₀ : (c₀ c k : ℕ) → c₀ ≤ c → c ≤ readingLimit → serverStep w (srv c₀ k 2 Live Live X 0 (Demanded 0)) c (server.Message 0 (k + 1) to-say.KeepAlive)
+  alive₀ : (c₀ c k : ℕ) → c₀ ≤ c → c ≤ readingLimit → serverStep w (srv c₀ k 2 Live Live X 0 (Demanded 0)) c (server.Message 0 (k + 1) KeepAlive)
       ≡ record { server = srv c (k + 1) 2 Live Live X 0 (Demanded 0); answer = says.Done }
   unfolding byStatus heed
   alive₀ c₀ c k on top =
-      served.heard w (srv c₀ k 2 Live Live X 0 (Demanded 0)) c 0 (k + 1) to-say.KeepAlive
-      (served.free z good c₀ c (server.Message 0 (k + 1) to-say.KeepAlive) (rw (lt-leb (z .stations) 0 here₀)) top on) (omega arith)
+      served.heard w (srv c₀ k 2 Live Live X 0 (Demanded 0)) c 0 (k + 1) KeepAlive
+      (served.free z good c₀ c (server.Message 0 (k + 1) KeepAlive) (rw (lt-leb (z .stations) 0 here₀)) top on) (omega arith)
 
   -- R ticks after the demand it starts timing out
   late₀ : (k : ℕ) → z .r ≤ readingLimit → (tick w (srv (z .r) k 2 Live Live X 0 (Demanded 0)) (z .r)) .server ≡ srv (z .r) k 2 (TimingOut (z .r)) Live X 0 (Demanded 0)
@@ -280,19 +277,19 @@ module _ (z : Settings) (good : inRange z ≡ true) (two : 2 ≤ z .stations) (w
   freed₀ k = rw (le-leb (z .r + w) (z .r + w) (le-refl (z .r + w)))
 
   module _ (c : ℕ) (top : c ≤ readingLimit) (k : ℕ) where
-    again₁ : serverStep w (srv c k 2 Unknown Live 0 0 Unmarked) c (server.Message 1 3 to-say.Hello)
+    again₁ : serverStep w (srv c k 2 Unknown Live 0 0 Unmarked) c (server.Message 1 3 Hello)
         ≡ record { server = srv c k 3 Unknown Live 0 0 Unmarked; answer = says.Done }
     unfolding byStatus heed wiped
     again₁ =
-        served.heard w (srv c k 2 Unknown Live 0 0 Unmarked) c 1 3 to-say.Hello
-        (served.free z good c c (server.Message 1 3 to-say.Hello) (rw (lt-leb (z .stations) 1 here₁)) top (le-refl c)) (lit< tt)
+        served.heard w (srv c k 2 Unknown Live 0 0 Unmarked) c 1 3 Hello
+        (served.free z good c c (server.Message 1 3 Hello) (rw (lt-leb (z .stations) 1 here₁)) top (le-refl c)) (lit< tt)
 
-    grant₁ : serverStep w (srv c k 3 Unknown Live 0 0 Unmarked) c (server.Message 1 4 (to-say.Ask 0 (mode X)))
+    grant₁ : serverStep w (srv c k 3 Unknown Live 0 0 Unmarked) c (server.Message 1 4 (Ask 0 (mode X)))
         ≡ record { server = srv c k 4 Unknown Live 0 X Unmarked; answer = says.Granted 0 (mode X) }
     unfolding byStatus heed askRule conflicts join goesWith
     grant₁ =
-        served.heard w (srv c k 3 Unknown Live 0 0 Unmarked) c 1 4 (to-say.Ask 0 (mode X))
-        (served.free z good c c (server.Message 1 4 (to-say.Ask 0 (mode X))) (named₁ 4) top (le-refl c)) (lit< tt)
+        served.heard w (srv c k 3 Unknown Live 0 0 Unmarked) c 1 4 (Ask 0 (mode X))
+        (served.free z good c c (server.Message 1 4 (Ask 0 (mode X))) (named₁ 4) top (le-refl c)) (lit< tt)
 
   base : 1 ≤ z .d
   base = ok .rates .base
@@ -375,7 +372,7 @@ module _ (z : Settings) (good : inRange z ≡ true) (two : 2 ≤ z .stations) (w
       (said z w (Together 0) 0 (λ j. 0) (at-together 0) (together z base 0) story₃ 1 here₁ (Ask 0 (mode X)) (messageOf 1 2 (Ask 0 (mode X)))
       (stepped waits₁ (answer.Sent 2 (Ask 0 (mode X))) 0 0)
       (sends 1 0 Open 0 1 Nothing 0 0 (Ask 0 (mode X)) here₁ zero-le zero-le (ask .named) (ask .same) (runs 1 0 0 1 Nothing 0 0 (within 0)) (may-ask 1 0 0 1 Nothing 0 (soon 0) (lit< tt)))
-      (ask .sent 1 2) (server.Message 1 2 (to-say.Ask 0 (mode X))) (record { server = _; answer = says.Wait 0 (mode X) 1 1 }) (ask .meant 1 2) ask₁)
+      (ask .sent 1 2) (server.Message 1 2 (Ask 0 (mode X))) (record { server = _; answer = says.Wait 0 (mode X) 1 1 }) (heard-back 1 2 (Ask 0 (mode X))) ask₁)
 
   -- the numbers of station 0's messages
   number : ℕ → ℕ

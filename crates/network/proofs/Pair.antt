@@ -11,9 +11,9 @@ use Rattle.modes.specs.Modes.{covers}
 use Rattle.modes.proofs.Laws.{covers-none}
 use Rattle.server.specs.declared.member.Status.{Status}
 use Rattle.server.specs.declared.member.Status.the-variants.{Unknown, Live, TimingOut}
-use Rattle.station.specs.declared.event.Request.{Request}
-use Rattle.station.specs.declared.event.Waiting.{Waiting}
-use Rattle.station.specs.declared.event.Waiting.the-variants.{Nothing, Sent}
+use Rattle.requests.specs.declared.Request.{Request}
+use Rattle.room.specs.declared.event.Waiting.{Waiting}
+use Rattle.room.specs.declared.event.Waiting.the-variants.{Nothing, Sent}
 
 -- what the server has of a station
 pub record Slot : Type 0 where

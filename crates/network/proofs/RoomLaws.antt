@@ -10,12 +10,12 @@ use Rattle.timing.specs.declared.settings.Settings.{Settings}
 use Rattle.timing.specs.Settings.{inRange, lease}
 use Rattle.timing.specs.Phase.{edge1, edge2, phaseAfter}
 use Rattle.timing.proofs.Phases.{in-first, in-second}
-use Rattle.station.specs.declared.event.Event.{Event}
+use Rattle.room.specs.declared.event.Event.{Event}
 use Rattle.station.specs.declared.event.UseAnswer.the-variants as use'
 use Rattle.station.specs.declared.station.Station.{Station}
-use Rattle.station.specs.declared.stage.Standing.the-variants.{Open}
-use Rattle.station.specs.Stage.{early, phaseAt, openPhase, isOut}
-use Rattle.station.specs.Refusal.{stationOf, namedRefusal, refusal, useRefusal}
+use Rattle.room.specs.declared.stage.Standing.the-variants.{Open}
+use Rattle.room.specs.Stage.{early, phaseAt, openPhase, isOut}
+use Rattle.room.specs.Refusal.{stationOf, namedRefusal, refusal, useRefusal}
 use Rattle.station.specs.Effect.{lastAfter, answerTo}
 use Rattle.station.specs.Station.{isOver, atReading, gone, forbids, after, stepped, judged, endedIf, isRestart, lost, lostIf, ifGood, ifAllowed, step, usable, mayUse}
 

@@ -19,23 +19,24 @@ use Rattle.timing.specs.Settings.{lease, inRange}
 use Rattle.timing.proofs.Ranges.{ranges}
 use Rattle.station.specs.declared.station.Station.{Station}
 use Rattle.station.specs.declared.station.Stepped.{Stepped}
-use Rattle.station.specs.declared.hold.Hold.{Hold}
-use Rattle.station.specs.declared.event.Request.{Request}
-use Rattle.station.specs.declared.event.Request.the-variants.{Hello}
-use Rattle.station.specs.declared.event.Waiting.{Waiting}
-use Rattle.station.specs.declared.event.Waiting.the-variants.{Sent}
-use Rattle.station.specs.declared.event.Ack.{Ack}
-use Rattle.station.specs.declared.event.Ack.the-variants.{Done, Granted, Wait, InUse}
-use Rattle.station.specs.declared.event.Event.{Event}
-use Rattle.station.specs.declared.event.Event.the-variants.{Send, Begin, Edit, End, WriteOut, Restart, Ack as Acked, Nack as Nacked, Demand}
+use Rattle.room.specs.declared.hold.Hold.{Hold}
+use Rattle.requests.specs.declared.Request.{Request}
+use Rattle.requests.specs.declared.Request.the-variants.{Hello}
+use Rattle.room.specs.declared.event.Waiting.{Waiting}
+use Rattle.room.specs.declared.event.Waiting.the-variants.{Sent}
+use Rattle.room.specs.declared.event.Ack.{Ack}
+use Rattle.room.specs.declared.event.Ack.the-variants.{Done, Granted, Wait, InUse}
+use Rattle.room.specs.declared.event.Event.{Event}
+use Rattle.room.specs.declared.event.Event.the-variants.{Send, Begin, Edit, End, WriteOut, Restart, Ack as Acked, Nack as Nacked, Demand}
 use Rattle.station.specs.declared.event.Answer.the-variants as answer
-use Rattle.station.specs.Stage.{isOut}
-use Rattle.station.specs.Hold.{noHold, changed, withUnwritten}
-use Rattle.station.specs.Refusal.{refusal, ackRefusal, namedRefusal, stationOf}
-use Rattle.station.specs.Rules.{ackProfile}
+use Rattle.room.specs.Stage.{isOut}
+use Rattle.room.specs.Hold.{noHold, changed, withUnwritten}
+use Rattle.room.specs.Refusal.{refusal, ackRefusal, namedRefusal, stationOf}
+use Rattle.room.specs.Rules.{ackProfile}
 use Rattle.station.specs.Effect.{sentAt, holdsAcked, begun, ended, holdsAfter, lastAfter, answerTo}
 use Rattle.station.specs.Station.{modeOf, holdAt, stageOf, leaseOf, gone, isOver, endedIf, expire, forbids, after, ifAllowed, ifGood, step}
-use Rattle.station.specs.Border.{messageOf, sentBy, ackAs, meantAs, eventOf}
+use Rattle.requests.specs.Request.{messageOf}
+use Rattle.station.specs.Border.{sentBy, ackAs, meantAs, eventOf}
 use Rattle.station.proofs.Seat.{modeIn, no-modes, no-holds-length, modes-kept, sent-modes, sent-length, acked-length, acked-modes, nacked-out, message-number, is-hello, given-up, sent-station, hello-out, Answers, answers, good-station, good-named, granted-in}
 use Rattle.network.specs.Picture.{World, Moment, withRoom, getting}
 use Rattle.network.specs.Premises.{isOwn}

@@ -22,9 +22,9 @@ use Rattle.server.specs.State.{newServer, nobody, noProfile, emptyProfile, stat
 use Rattle.server.proofs.Frames.{entry}
 use Rattle.station.specs.declared.station.Station.{Station}
 use Rattle.station.specs.declared.event.UseAnswer.the-variants.{Yes}
-use Rattle.station.specs.declared.event.Waiting.the-variants.{Nothing}
-use Rattle.station.specs.Stage.{isOut}
-use Rattle.station.specs.Refusal.{useRefusal}
+use Rattle.room.specs.declared.event.Waiting.the-variants.{Nothing}
+use Rattle.room.specs.Stage.{isOut}
+use Rattle.room.specs.Refusal.{useRefusal}
 use Rattle.station.specs.Station.{newStation, modeOf, leaseOf, usable, ifUse, mayUse}
 use Rattle.station.proofs.Seat.{no-modes, no-holds-length}
 use Rattle.network.specs.Picture.{World, worldAtFirst, Happening, nothing, ticks, hears, gets, does, asks, Moment, next, run}

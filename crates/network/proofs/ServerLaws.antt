@@ -9,12 +9,13 @@ use Rattle.timing.specs.Settings.{inRange}
 use Rattle.server.specs.declared.server.Server.{Server}
 use Rattle.server.specs.declared.event.Event.{Event}
 use Rattle.server.specs.declared.event.Event.the-variants.{Message, Tick}
-use Rattle.server.specs.declared.event.Request.{Request}
+use Rattle.requests.specs.declared.Request.{Request}
 use Rattle.server.specs.State.{memberAt, profileAt, lastOf, statusOf}
 use Rattle.server.specs.Sets.{liveSet}
 use Rattle.server.specs.Hear.{byStatus, numbered, ifNew, hear}
 use Rattle.server.specs.Refusal.{eventRefusal, refusal}
-use Rattle.server.specs.Step.{profileOf, afterHeard, message, tick, ifGood, step}
+use Rattle.requests.specs.Request.{profileOf}
+use Rattle.server.specs.Step.{afterHeard, message, tick, ifGood, step}
 
 module _ (z : Settings) (good : inRange z ≡ true) where
   pub free : (last now : ℕ) (e : Event) → eventRefusal z e ≡ 0 → now ≤ readingLimit → last ≤ now → refusal z last now e ≡ 0

@@ -24,7 +24,7 @@ use Rattle.server.specs.State.{nobody, statusOf, lastOf, modeOf as modeAt}
 use Rattle.server.proofs.Frames.{entry, Whole}
 use Rattle.server.proofs.Sent.{Acks}
 use Rattle.station.specs.declared.station.Station.{Station}
-use Rattle.station.specs.Stage.{isOut}
+use Rattle.room.specs.Stage.{isOut}
 use Rattle.station.specs.Station.{modeOf}
 use Rattle.network.specs.Picture.{World, Moment}
 use Rattle.network.proofs.Pair.{Slot, Seat, Held, Known, Covered, Fits, Inv, later, taken, turned}

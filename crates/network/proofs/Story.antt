@@ -18,9 +18,9 @@ use Rattle.server.specs.Step.{step as serverStep}
 use Rattle.server.specs.Border.{sentFor, eventOf as serverEvent}
 use Rattle.station.specs.declared.station.Station.{Station}
 use Rattle.station.specs.declared.station.Stepped.{Stepped}
-use Rattle.station.specs.declared.event.Event.{Event as RoomEvent}
-use Rattle.station.specs.declared.event.Event.the-variants.{Send}
-use Rattle.station.specs.declared.event.Request.{Request}
+use Rattle.room.specs.declared.event.Event.{Event as RoomEvent}
+use Rattle.room.specs.declared.event.Event.the-variants.{Send}
+use Rattle.requests.specs.declared.Request.{Request}
 use Rattle.station.specs.declared.border.Meant.{Meant as ToRoom}
 use Rattle.station.specs.declared.border.Meant.the-variants as to-room
 use Rattle.station.specs.Station.{step as roomStep}

@@ -9,8 +9,8 @@ use Rattle.modes.specs.Modes.{goesWith}
 use Rattle.timing.specs.declared.settings.Settings.{Settings}
 use Rattle.timing.specs.Settings.{inRange, wait}
 use Rattle.station.specs.declared.station.Station.{Station}
-use Rattle.station.specs.declared.event.Event.{Event}
-use Rattle.station.specs.declared.event.Event.the-variants.{Begin, Edit, WriteOut}
+use Rattle.room.specs.declared.event.Event.{Event}
+use Rattle.room.specs.declared.event.Event.the-variants.{Begin, Edit, WriteOut}
 use Rattle.station.specs.declared.event.UseAnswer.the-variants.{Yes}
 use Rattle.station.specs.Station.{modeOf, mayUse, step}
 use Rattle.station.proofs.Allowed.{InUse, begin-uses, edit-uses, write-out-uses}

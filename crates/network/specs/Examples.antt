@@ -10,15 +10,15 @@ use Rattle.timing.specs.declared.settings.Settings.{Settings}
 use Rattle.timing.specs.Settings.{settings, wait}
 use Rattle.server.specs.declared.member.Status.the-variants.{Unknown, TimingOut}
 use Rattle.server.specs.State.{statusOf, modeOf as grantedTo}
-use Rattle.station.specs.declared.stage.Standing.the-variants.{Out, Closing}
-use Rattle.station.specs.declared.event.Request.the-variants.{Hello, KeepAlive, Ask, Release}
-use Rattle.station.specs.declared.event.Event.the-variants.{Send, Begin, Edit, End, WriteOut, Demand}
+use Rattle.room.specs.declared.stage.Standing.the-variants.{Out, Closing}
+use Rattle.requests.specs.declared.Request.the-variants.{Hello, KeepAlive, Ask, Release}
+use Rattle.room.specs.declared.event.Event.the-variants.{Send, Begin, Edit, End, WriteOut, Demand}
 use Rattle.station.specs.declared.event.Advice.the-variants as advice
 use Rattle.station.specs.declared.event.Answer.the-variants as answer
 use Rattle.station.specs.declared.event.PhaseAnswer.the-variants as phase
 use Rattle.station.specs.declared.event.UseAnswer.the-variants as use'
 use Rattle.station.specs.Station.{modeOf, unwrittenOf, phaseAsked, mayUse, step}
-use Rattle.station.specs.Border.{message}
+use Rattle.record.specs.Message.{message}
 use Rattle.network.specs.Picture.{World, Happening, ticks, hears, gets, does, Moment, run}
 use Rattle.network.specs.Premises.{Permitted}
 

@@ -16,7 +16,7 @@ use Rattle.server.specs.Step.{step as serverStep}
 use Rattle.server.specs.Border.{sentFor, eventOf as serverEvent}
 use Rattle.station.specs.declared.station.Station.{Station}
 use Rattle.station.specs.declared.station.Stepped.{Stepped}
-use Rattle.station.specs.declared.event.Event.{Event}
+use Rattle.room.specs.declared.event.Event.{Event}
 use Rattle.station.specs.declared.border.Meant.{Meant as ToRoom}
 use Rattle.station.specs.declared.border.Meant.the-variants as to-room
 use Rattle.station.specs.Station.{newStation, step as roomStep}

@@ -6,8 +6,8 @@ use mathlib.Core.List.{List, [], _∷_, List·Memᴰ}
 use Prim.Native.Nat.{ℕ, _-_, _<_, _≤_}
 use Rattle.timing.specs.declared.settings.Settings.{Settings}
 use Rattle.timing.specs.Settings.{RateRule}
-use Rattle.station.specs.declared.event.Event.{Event}
-use Rattle.station.specs.declared.event.Event.the-variants.{Send, Begin, Edit, End, WriteOut, Restart, Ack as Acked, Nack as Nacked, Demand}
+use Rattle.room.specs.declared.event.Event.{Event}
+use Rattle.room.specs.declared.event.Event.the-variants.{Send, Begin, Edit, End, WriteOut, Restart, Ack as Acked, Nack as Nacked, Demand}
 use Rattle.network.specs.Picture.{World, Happening, nothing, ticks, hears, gets, does, asks, Moment, run}
 
 -- An earlier and a later moment, at the server's clock and at the clock of room i.

@@ -7,8 +7,8 @@ use Rattle.modes.specs.Modes.{goesWith, covers, writes}
 use Rattle.modes.specs.declared.Mode.{Mode}
 use Rattle.timing.specs.declared.settings.Settings.{Settings}
 use Rattle.timing.specs.Settings.{inRange, wait}
-use Rattle.station.specs.declared.event.Event.{Event}
-use Rattle.station.specs.declared.event.Event.the-variants.{Begin, Edit, WriteOut}
+use Rattle.room.specs.declared.event.Event.{Event}
+use Rattle.room.specs.declared.event.Event.the-variants.{Begin, Edit, WriteOut}
 use Rattle.station.specs.declared.event.Answer.the-variants.{Done}
 use Rattle.station.specs.Station.{modeOf, step}
 use Rattle.network.specs.Picture.{does, Moment, run}

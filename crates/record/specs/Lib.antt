@@ -1,3 +1,4 @@
+pub mod Message
 pub mod Number
 pub mod Allowed
 pub mod Read

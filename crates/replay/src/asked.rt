@@ -3,16 +3,8 @@ use crate::words::Word;
 use crate::words::is_word;
 use crate::words::next_u8;
 use modes::Mode;
-
-pub(crate) enum Asked {
-    Hello,
-    KeepAlive,
-    Ask(u8, Mode),
-    Release(u8),
-    Keep(u8),
-    // No such message.
-    Nothing,
-}
+use requests::Asked;
+use requests::Request;
 
 // By its name and the words after a place, with which the line ends.
 pub(crate) fn asks(s: &[u8], name: Word, place: usize) -> Asked {
@@ -29,27 +21,27 @@ pub(crate) fn asks(s: &[u8], name: Word, place: usize) -> Asked {
         return Asked::Nothing;
     }
     if is_word(s, name, b"ask") {
-        return Asked::Ask(profile, Mode(m.value));
+        return Asked::For(Request::Ask(profile, Mode(m.value)));
     }
     Asked::Nothing
 }
 
 fn greeting(s: &[u8], name: Word) -> Asked {
     if is_word(s, name, b"hello") {
-        return Asked::Hello;
+        return Asked::For(Request::Hello);
     }
     if is_word(s, name, b"keepalive") {
-        return Asked::KeepAlive;
+        return Asked::For(Request::KeepAlive);
     }
     Asked::Nothing
 }
 
 fn of_profile(s: &[u8], name: Word, profile: u8) -> Asked {
     if is_word(s, name, b"release") {
-        return Asked::Release(profile);
+        return Asked::For(Request::Release(profile));
     }
     if is_word(s, name, b"keep") {
-        return Asked::Keep(profile);
+        return Asked::For(Request::Keep(profile));
     }
     Asked::Nothing
 }

@@ -1,5 +1,5 @@
 // Which line it is, and what stands in it.
-use crate::room;
+use crate::rooms;
 use crate::serve;
 use crate::words::Word;
 use crate::words::first_word;
@@ -105,7 +105,7 @@ fn line_of(s: &[u8]) -> Line {
         return serve::server_line(s, name.end);
     }
     if is_word(s, name, b"room") {
-        return room::room_line(s, name.end);
+        return rooms::room_line(s, name.end);
     }
     if is_word(s, name, b"settings") {
         return settings_line(s, name.end);

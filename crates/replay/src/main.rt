@@ -9,7 +9,7 @@ mod line; // which line it is
 mod plain; // the lines that need no engine
 mod play; // the engines
 mod print; // the output buffer
-mod room; // the lines of a room
+mod rooms; // the lines of a room
 mod serve; // the lines of the server
 mod told; // what a room answers
 mod words; // words and numbers of a line

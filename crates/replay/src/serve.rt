@@ -1,5 +1,4 @@
 // The lines of the server, and what it answers.
-use crate::asked::Asked;
 use crate::asked::asks;
 use crate::line::Line;
 use crate::line::Plain;
@@ -14,13 +13,9 @@ use crate::words::next_u32;
 use crate::words::next_u64;
 use crate::words::next_word;
 use modes::Mode;
+use requests::Asked;
 use server::event::Answer;
 use server::event::Event;
-use server::event::Request;
-
-fn message(reading: u64, station: u8, number: u32, request: Request) -> Line {
-    Line::Server(reading, Event::Message(station, number, request))
-}
 
 // After the word `server`.
 pub(crate) fn server_line(s: &[u8], place: usize) -> Line {
@@ -37,11 +32,7 @@ pub(crate) fn server_line(s: &[u8], place: usize) -> Line {
     let k = next_u32(s, i.end);
     let number = k.value;
     match asks(s, name, k.end) {
-        Asked::Hello => message(reading, station, number, Request::Hello),
-        Asked::KeepAlive => message(reading, station, number, Request::KeepAlive),
-        Asked::Ask(p, m) => message(reading, station, number, Request::Ask(p, m)),
-        Asked::Release(p) => message(reading, station, number, Request::Release(p)),
-        Asked::Keep(p) => message(reading, station, number, Request::Keep(p)),
+        Asked::For(request) => Line::Server(reading, Event::Message(station, number, request)),
         Asked::Nothing => Line::Plain(Plain::Bad),
     }
 }

@@ -18,7 +18,8 @@ use Rattle.server.specs.Sets.{only, everyone, isLive, isKept, liveSet, m
 use Rattle.server.specs.Ask.{Done, Granted, Wait, InUse, Nack, Refused, withRow, askRule, freeOrNot, keptOrWait}
 use Rattle.server.specs.Hear.{Request, Hello, KeepAlive, Ask, Release, Keep, Heard, answered, greeted, heed, welcome, ruledFor, byStatus, numbered, ifNew}
 use Rattle.server.specs.Refusal.{Event, Message, refusal}
-use Rattle.server.specs.Step.{profileOf, afterHeard, atReading, ifGood, step}
+use Rattle.requests.specs.Request.{profileOf}
+use Rattle.server.specs.Step.{afterHeard, atReading, ifGood, step}
 use Rattle.server.proofs.Frames.{mode-wiped, width-wiped}
 use Rattle.server.proofs.Marks.{markAt, mark-anywhere, mark-eased, all-eased, mark-wiped, marks-wiped}
 use Rattle.server.proofs.Serves.{Sized, Accepted, at, changedAt, allOf, own, allOn, noLock, Told, along, by-tables}

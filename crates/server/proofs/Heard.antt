@@ -16,7 +16,8 @@ use Rattle.server.specs.Sets.{only, liveSet, marksChanged, wiped, wipeMa
 use Rattle.server.specs.Ask.{Answer, Done, withMarks}
 use Rattle.server.specs.Hear.{Request, answered, greeted, byStatus, numbered, ifNew, hear}
 use Rattle.server.specs.Refusal.{Message}
-use Rattle.server.specs.Step.{profileOf, afterHeard, message, ifGood, step}
+use Rattle.requests.specs.Request.{profileOf}
+use Rattle.server.specs.Step.{afterHeard, message, ifGood, step}
 use Rattle.server.proofs.Frames.{only-same, only-other, entry-wiped}
 use Rattle.server.proofs.Refusals.{in-arrays}
 use Rattle.server.proofs.Marks.{markAt, full-wiped, full-set, marks-length, mark-entry-wiped}

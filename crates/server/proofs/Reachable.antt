@@ -17,7 +17,8 @@ use Rattle.server.specs.Sets.{isLive, isWaited, wipeMark, dropKept, dema
 use Rattle.server.specs.Ask.{Answer, Done}
 use Rattle.server.specs.Hear.{Request, Hello, Ask}
 use Rattle.server.specs.Refusal.{Event, Message, Tick}
-use Rattle.server.specs.Step.{Served, profileOf, step}
+use Rattle.requests.specs.Request.{profileOf}
+use Rattle.server.specs.Step.{Served, step}
 use Rattle.server.proofs.Frames.{startedTo, freedTo}
 use Rattle.server.proofs.Refusals.{station-below, profile-below}
 use Rattle.server.proofs.Serves.{Sized, Accepted, at, changedAt, allOf, own, allOn, noLock, Serves, at-other}

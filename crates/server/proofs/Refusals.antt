@@ -1,95 +1,62 @@
 -- Each way through refusals 1 to 6, and what it tells that none applies.
 -- Assumes nothing.
-use mathlib.Core.Path.{_≡_, refl, sym, ap, _∙_}
+use mathlib.Core.Path.{_≡_, sym, ap, subst}
 use mathlib.Core.Bool.{Bool, true, false, cond}
-use Prim.Native.Nat.{ℕ, zero, suc, _<_, _≤_}
+use Prim.Native.Nat.{ℕ, _<_, _≤_}
 use native.Mathlib.Omega.{arith}
-use lib.Dec.{leb, ltb}
-use borrow.Author.Tests.{lt-ltb, le-ltb, leb-false, ltb-false}
+use lib.Dec.{leb}
+use borrow.Author.Tests.{leb-false}
 use Rattle.modes.specs.Modes.{isMode}
 use Rattle.modes.specs.declared.Mode.{Mode}
 use Rattle.timing.specs.Limits.{readingLimit, mostStations, mostProfiles}
+use Rattle.timing.specs.Reading.{orElse, readingRefusal}
 use Rattle.timing.specs.declared.settings.Settings.{Settings}
 use Rattle.timing.specs.Settings.{inRange}
 use Rattle.timing.proofs.Ranges.{ranges}
-use Rattle.server.specs.Hear.{Request, Hello, KeepAlive, Ask, Release, Keep}
-use Rattle.server.specs.Refusal.{Event, Message, requestRefusal, eventRefusal, readingRefusal, orElse, refusal}
-use Rattle.server.specs.Step.{profileOf}
+use Rattle.timing.proofs.Choice as choice
+use Rattle.requests.specs.Request.{profileOf, requestRefusal}
+use Rattle.requests.proofs.Back.{named-below}
+use Rattle.server.specs.Hear.{Request, Ask}
+use Rattle.server.specs.Refusal.{Event, Message, eventRefusal, refusal}
 
 module _ (z : Settings) (last now : ℕ) (e : Event) where
-  pub bad-settings : inRange z ≡ false → 1 ≡ refusal z last now e
+  by-settings : (t : Bool) → inRange z ≡ t → refusal z last now e ≡ cond t (orElse (eventRefusal z e) (readingRefusal last now)) 1
   unfolding refusal
-  bad-settings h = sym (ap (λ (t : Bool). cond t (orElse (eventRefusal z e) (readingRefusal last now)) 1) h)
+  by-settings t h = ap (λ (t : Bool). cond t (orElse (eventRefusal z e) (readingRefusal last now)) 1) h
 
-  module _ (good : inRange z ≡ true) where
-    asked : refusal z last now e ≡ orElse (eventRefusal z e) (readingRefusal last now)
-    unfolding refusal
-    asked = ap (λ (t : Bool). cond t (orElse (eventRefusal z e) (readingRefusal last now)) 1) good
+  pub bad-settings : inRange z ≡ false → 1 ≡ refusal z last now e
+  bad-settings h = sym (by-settings false h)
 
-    pub named : (n : ℕ) → n ≡ eventRefusal z e → (n ≡ 0 → ⊥) → n ≡ refusal z last now e
-    named zero q h = absurd (h refl)
-    named (suc n) q h = sym (asked ∙ ap (λ (k : ℕ). orElse k (readingRefusal last now)) (sym q))
+  pub named : inRange z ≡ true → (n : ℕ) → n ≡ eventRefusal z e → (n ≡ 0 → ⊥) → n ≡ refusal z last now e
+  named good n q h = subst (λ (k : ℕ). n ≡ k) (sym (by-settings true good)) (choice.first n (eventRefusal z e) q (readingRefusal last now) h)
 
-    module _ (unnamed : 0 ≡ eventRefusal z e) where
-      read : refusal z last now e ≡ readingRefusal last now
-      read = asked ∙ ap (λ (k : ℕ). orElse k (readingRefusal last now)) (sym unnamed)
-
-      pub above : readingLimit < now → 5 ≡ refusal z last now e
-      above h = sym (read ∙ simp (lt-ltb readingLimit now h))
-
-      pub below : now ≤ readingLimit → now < last → 6 ≡ refusal z last now e
-      below h k = sym (read ∙ simp (le-ltb readingLimit now h, lt-ltb now last k))
-
-      pub none : now ≤ readingLimit → last ≤ now → 0 ≡ refusal z last now e
-      none h k = sym (read ∙ simp (le-ltb readingLimit now h, le-ltb now last k))
+  pub unnamed : inRange z ≡ true → (n : ℕ) → n ≡ eventRefusal z e → n ≡ 0 → (k : ℕ) → k ≡ readingRefusal last now → k ≡ refusal z last now e
+  unnamed good n q h k r = subst (λ (m : ℕ). k ≡ m) (sym (by-settings true good)) (choice.next n (eventRefusal z e) q k (readingRefusal last now) h r)
 
 -- what an event that is not refused by 1 to 6 tells
-pub or-zero : (n m : ℕ) → orElse n m ≡ 0 → (n ≡ 0) × (m ≡ 0)
-or-zero zero m e = (refl, e)
-or-zero (suc n) m e = absurd (omega arith)
-
-pub cond-zero : (b : Bool) (n m : ℕ) → cond b (suc n) m ≡ 0 → (b ≡ false) × (m ≡ 0)
-cond-zero true n m e = absurd (omega arith)
-cond-zero false n m e = (refl, e)
-
-cond-mode : (b : Bool) (n : ℕ) → cond b 0 (suc n) ≡ 0 → b ≡ true
-cond-mode true n e = refl
-cond-mode false n e = absurd (omega arith)
-
-first-good : (b : Bool) (n m : ℕ) → cond b n (suc m) ≡ 0 → (b ≡ true) × (n ≡ 0)
-first-good true n m e = (refl, e)
-first-good false n m e = absurd (omega arith)
-
-named-below : (profiles : ℕ) → 1 ≤ profiles → (q : Request) → requestRefusal profiles q ≡ 0 → profileOf q < profiles
-named-below profiles h Hello e = h
-named-below profiles h KeepAlive e = h
-named-below profiles h (Ask p m) e = leb-false profiles p (cond-zero (leb profiles p) 2 (cond (isMode (m .0)) 0 4) e .0)
-named-below profiles h (Release p) e = leb-false profiles p (cond-zero (leb profiles p) 2 0 e .0)
-named-below profiles h (Keep p) e = leb-false profiles p (cond-zero (leb profiles p) 2 0 e .0)
-
 module _ (z : Settings) (last now : ℕ) (e : Event) (accepted : refusal z last now e ≡ 0) where
   parts : (inRange z ≡ true) × (orElse (eventRefusal z e) (readingRefusal last now) ≡ 0)
   unfolding refusal
-  parts = first-good (inRange z) (orElse (eventRefusal z e) (readingRefusal last now)) 0 accepted
+  parts = (
+    choice.allows (inRange z) _ 1 accepted (λ z. omega arith),
+    choice.inside (inRange z) (orElse (eventRefusal z e) (readingRefusal last now)) 1 accepted (λ z. omega arith),
+  )
 
   pub settings-good : inRange z ≡ true
   settings-good = parts .0
 
   pub event-good : eventRefusal z e ≡ 0
-  event-good = or-zero (eventRefusal z e) (readingRefusal last now) (parts .1) .0
+  event-good = choice.or-zero (eventRefusal z e) (readingRefusal last now) (parts .1) .0
 
   pub reading-good : (now ≤ readingLimit) × (last ≤ now)
-  reading-good =
-      let r = or-zero (eventRefusal z e) (readingRefusal last now) (parts .1) .1 in
-      let a = cond-zero (ltb readingLimit now) 4 (cond (ltb now last) 6 0) r in
-      let b = cond-zero (ltb now last) 5 0 (a .1) in
-      (ltb-false readingLimit now (a .0), ltb-false now last (b .0))
+  reading-good = choice.reading-good last now (choice.or-zero (eventRefusal z e) (readingRefusal last now) (parts .1) .1)
 
 -- and of a message: its station and its profile are among those of the settings, and an asked mode is one of the six
 module _ (z : Settings) (last now i k : ℕ) (q : Request) (accepted : refusal z last now (Message i k q) ≡ 0) where
   both-good : (leb (z .stations) i ≡ false) × (requestRefusal (z .profiles) q ≡ 0)
   both-good =
-      cond-zero (leb (z .stations) i) 1 (requestRefusal (z .profiles) q) (event-good z last now (Message i k q) accepted)
+      let e = event-good z last now (Message i k q) accepted in
+      (choice.fails (leb (z .stations) i) 2 _ e (λ z. omega arith), choice.passes (leb (z .stations) i) 2 _ e (λ z. omega arith))
 
   pub station-below : i < z .stations
   station-below = leb-false (z .stations) i (both-good .0)
@@ -105,4 +72,4 @@ module _ (z : Settings) (last now i k : ℕ) (q : Request) (accepted : refusal z
       (omega (arith, station-below), omega (arith, profile-below))
 
 pub asked-mode : (profiles p : ℕ) (m : Mode) → requestRefusal profiles (Ask p m) ≡ 0 → isMode (m .0) ≡ true
-asked-mode profiles p m e = cond-mode (isMode (m .0)) 3 (cond-zero (leb profiles p) 2 (cond (isMode (m .0)) 0 4) e .1)
+asked-mode profiles p m e = choice.allows (isMode (m .0)) 0 4 (choice.passes (leb profiles p) 3 _ e (λ z. omega arith)) (λ z. omega arith)

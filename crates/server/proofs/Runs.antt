@@ -11,19 +11,10 @@ use lib.Seq.{set-append-seam, take-append-seam}
 use borrow.Author.Tests.{lt-ltb}
 use Rattle.record.specs.declared.message.Message.{Message}
 use Rattle.record.specs.declared.run.Run.{Run}
+use Rattle.record.specs.Message.{message}
 use Rattle.record.specs.Run.{messagesOf}
-use Rattle.server.specs.Border.{NotForServer, meantAs, message, demandsFrom}
+use Rattle.server.specs.Border.{firstIf, demandsFrom}
 use Rattle.server.specs.Run.{blank, most, runOf, pushed, added}
-
--- a kind that is none of 1 to 5 is not for a server
-pub not-served : (k : ℕ) (m : Message) → (k ≡ 1 → ⊥) → (k ≡ 2 → ⊥) → (k ≡ 3 → ⊥) → (k ≡ 4 → ⊥) → (k ≡ 5 → ⊥) → NotForServer ≡ meantAs k m
-not-served zero m h1 h2 h3 h4 h5 = refl
-not-served (suc zero) m h1 h2 h3 h4 h5 = absurd (h1 refl)
-not-served (suc (suc zero)) m h1 h2 h3 h4 h5 = absurd (h2 refl)
-not-served (suc (suc (suc zero))) m h1 h2 h3 h4 h5 = absurd (h3 refl)
-not-served (suc (suc (suc (suc zero)))) m h1 h2 h3 h4 h5 = absurd (h4 refl)
-not-served (suc (suc (suc (suc (suc zero))))) m h1 h2 h3 h4 h5 = absurd (h5 refl)
-not-served (suc (suc (suc (suc (suc (suc k)))))) m h1 h2 h3 h4 h5 = refl
 
 -- the array after one message more
 room : (l : List Message) (m : Message) (k : ℕ) → set (l ++ replicate (suc k) blank) (length l) m ≡ (l ++ (m ∷ [])) ++ replicate k blank
@@ -56,10 +47,10 @@ module _ (j w p v : ℕ) (total : List Message) (in-order : j < 16) where
 
   -- what the lowest bit decides
   first-is : (t : Bool) → eqb (w % 2) 1 ≡ t → (l : List Message)
-      → l ++ demandsFrom (16 - j) j w p v ≡ l ++ cond t (message 8 j 0 p v 0 ∷ demandsFrom (15 - j) (suc j) (w / 2) p v) (demandsFrom (15 - j) (suc j) (w / 2) p v)
+      → l ++ demandsFrom (16 - j) j w p v ≡ l ++ firstIf t (message 8 j 0 p v 0) (demandsFrom (15 - j) (suc j) (w / 2) p v)
   first-is t q l =
       left l
-      ∙ ap (λ (b : Bool). l ++ cond b (message 8 j 0 p v 0 ∷ demandsFrom (15 - j) (suc j) (w / 2) p v) (demandsFrom (15 - j) (suc j) (w / 2) p v)) q
+      ∙ ap (λ (b : Bool). l ++ firstIf b (message 8 j 0 p v 0) (demandsFrom (15 - j) (suc j) (w / 2) p v)) q
 
   added-is : (t : Bool) → eqb (w % 2) 1 ≡ t → (run : Run) → added w (message 8 j 0 p v 0) run ≡ cond t (pushed (message 8 j 0 p v 0) run) run
   unfolding added

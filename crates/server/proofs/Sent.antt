@@ -1,7 +1,7 @@
--- What a server sends for an answer: the one ACK or NACK goes to the asker and has the number asked; demands are none.
+-- What a server hears of a request, and what it sends for an answer: the one ACK or NACK goes to the asker and has the number asked; demands are none.
 -- Assumes nothing.
-use mathlib.Core.Path.{_≡_, sym, ap, _∙_}
-use mathlib.Core.Bool.{Bool, true, false, cond}
+use mathlib.Core.Path.{_≡_, refl, sym, ap, _∙_}
+use mathlib.Core.Bool.{Bool, true, false}
 use mathlib.Core.List.{List, _∷_, List·Memᴰ, List·Memᴰ·cases-cons, List·Memᴰ·not-nil, List·Memᴰ·eq-of-singleton}
 use mathlib.Core.Logic.{_⊎_, inl, inr}
 use Prim.Native.Nat.{ℕ, zero, suc, _/_, _%_}
@@ -10,7 +10,20 @@ use lib.Dec.{eqb}
 use Rattle.record.specs.declared.message.Message.{Message}
 use Rattle.server.specs.State.{Status, Live}
 use Rattle.server.specs.Ask.{Answer, Done, Granted, Wait, InUse, Nack, Ticked, Refused}
-use Rattle.server.specs.Border.{message, demandsFrom, sentFor}
+use Rattle.record.specs.Message.{message}
+use Rattle.requests.specs.Request.{messageOf, requestOf}
+use Rattle.server.specs.Hear.{Request, Hello, KeepAlive, Ask, Release, Keep}
+use Rattle.server.specs.Refusal.{Message as Said}
+use Rattle.server.specs.Border.{For, eventOf, firstIf, demandsFrom, sentFor}
+
+-- what a station says reaches the server as it was meant
+pub heard-back : (i k : ℕ) (q : Request) → eventOf (messageOf i k q) ≡ For (Said i k q)
+unfolding eventOf requestOf messageOf
+heard-back i k Hello = refl
+heard-back i k KeepAlive = refl
+heard-back i k (Ask p m) = refl
+heard-back i k (Release p) = refl
+heard-back i k (Keep p) = refl
 
 -- every ACK among the messages is to station i, of number k, from a server that has it live; and what it grants is the station's mode
 abbrev pub Acks : ℕ → ℕ → Status → (ℕ → ℕ) → List Message → Type 0
@@ -39,7 +52,7 @@ no-ack-in (suc n) j w p wanted m h e = by-test (no-ack-in n (suc j) (w / 2) p wa
     first rest (inr q) = rest q e
 
     by-test : (List·Memᴰ m (demandsFrom n (suc j) (w / 2) p wanted) → m .kind ≡ 6 → ⊥) → (b : Bool) →
-        List·Memᴰ m (cond b (message 8 j 0 p wanted 0 ∷ demandsFrom n (suc j) (w / 2) p wanted) (demandsFrom n (suc j) (w / 2) p wanted)) → ⊥
+        List·Memᴰ m (firstIf b (message 8 j 0 p wanted 0) (demandsFrom n (suc j) (w / 2) p wanted)) → ⊥
     by-test rest true q = first rest (List·Memᴰ·cases-cons q)
     by-test rest false q = rest q e
 

@@ -15,7 +15,8 @@ use Rattle.server.specs.Ask.{Ticked, Refused}
 use Rattle.server.specs.Hear.{Request, Heard, hear}
 use Rattle.server.specs.Refusal.{Event, refusal}
 use Rattle.server.specs.Tick.{freedSet, free, startedSet, start}
-use Rattle.server.specs.Step.{profileOf, wipedIf, afterHeard, message, tick, act, ifGood, step}
+use Rattle.requests.specs.Request.{profileOf}
+use Rattle.server.specs.Step.{wipedIf, afterHeard, message, tick, act, ifGood, step}
 use Rattle.server.proofs.Under.{wiped-under}
 
 -- all profiles wiped by a mask are all profiles wiped in its set

@@ -14,17 +14,9 @@ use borrow.Author.Tests.{le-leb, lt-leb, leb-true, leb-false}
 use Rattle.masks.specs.Mask.{Set, mask, either}
 use Rattle.masks.proofs.Laws.{under-in, mask-either}
 use Rattle.server.specs.State.{Profile, noProfile}
-use Rattle.server.specs.Sets.{passed, isLate, marksWith, lateSet, only, onlyOf, wiped, wipeMark, keepMark, remark, noMode, marksChanged}
+use Rattle.server.specs.Sets.{isLate, marksWith, lateSet, only, onlyOf, wiped, wipeMark, keepMark, remark, noMode, marksChanged}
 use Rattle.server.specs.Under.{wipedUnder, keptUnder}
 use Rattle.server.specs.Ask.{withMarks}
-
--- a test by what is left is the test by the sum
-pub same-test : (since ticks now : ℕ) → since ≤ now → leb ticks (now - since) ≡ passed since ticks now
-same-test since ticks now h = by-test (leb ticks (now - since)) refl
-  where
-    by-test : (t : Bool) → leb ticks (now - since) ≡ t → leb ticks (now - since) ≡ passed since ticks now
-    by-test true e = e ∙ sym (le-leb (since + ticks) now (omega (arith, leb-true ticks (now - since) e)))
-    by-test false e = e ∙ sym (lt-leb (since + ticks) now (omega (arith, leb-false ticks (now - since) e)))
 
 -- a profile wiped, or its marks kept, by a set's mask
 pub wiped-under : (s : Set) (x : Profile) → wipedUnder (mask s) x ≡ wiped s x

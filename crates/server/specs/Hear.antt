@@ -6,8 +6,8 @@ use Rattle.masks.specs.Mask.{Set}
 use Rattle.server.specs.State.{Status, Unknown, Live, TimingOut, Member, Profile}
 use Rattle.server.specs.Sets.{only, wiped, marksChanged, keepMark, restatus}
 use Rattle.server.specs.Ask.{Answer, Done, Nack, Refused, Ruled, withMarks, askRule}
-pub use Rattle.server.specs.declared.event.Request.{Request}
-pub use Rattle.server.specs.declared.event.Request.the-variants.{Hello, KeepAlive, Ask, Release, Keep}
+pub use Rattle.requests.specs.declared.Request.{Request}
+pub use Rattle.requests.specs.declared.Request.the-variants.{Hello, KeepAlive, Ask, Release, Keep}
 pub use Rattle.server.specs.declared.hear.Heard.{Heard}
 
 -- the station and the profile as they are then, and the answer

@@ -8,6 +8,7 @@ use Rattle.masks.specs.Mask.{Set, those, thoseAt, changeIn, either}
 use Rattle.modes.specs.Modes.{mode, goesWith}
 use Rattle.modes.specs.declared.Mode.{Mode}
 use Rattle.timing.specs.Limits.{mostStations}
+use Rattle.timing.specs.Reading.{passed}
 use Rattle.server.specs.State.{Status, Unknown, Live, TimingOut, Member, Mark, Unmarked, Demanded, Kept, Marked, Profile}
 
 -- all stations, and one of them
@@ -21,10 +22,6 @@ onlyOf (suc n) (suc i) = false ∷ onlyOf n i
 
 abbrev pub only : ℕ → Set
 only i = onlyOf mostStations i
-
--- a time that began at a reading has run so many ticks or more
-abbrev pub passed : ℕ → ℕ → ℕ → Bool
-passed since ticks now = leb (since + ticks) now
 
 abbrev pub isLive : Status → Bool
 isLive Unknown = false

@@ -9,7 +9,8 @@ use Rattle.timing.specs.Settings.{settingsRefusal}
 use Rattle.server.specs.State.{newServer, Profile, Server, memberAt, profileAt}
 use Rattle.server.specs.Sets.{only, liveSet, wiped}
 use Rattle.server.specs.Ask.{Ticked, Refused}
-use Rattle.server.specs.Hear.{Request, Hello, KeepAlive, Ask, Release, Keep, Heard, hear}
+use Rattle.requests.specs.Request.{profileOf}
+use Rattle.server.specs.Hear.{Request, Heard, hear}
 use Rattle.server.specs.Refusal.{Event, Message, Tick, refusal}
 use Rattle.server.specs.Tick.{freedSet, free, startedSet, start}
 pub use Rattle.server.specs.declared.server.Served.{Served}
@@ -18,14 +19,6 @@ pub use Rattle.server.specs.declared.server.Made.{Made}
 -- a new server, and the refusal of its settings
 abbrev pub made : Settings → Made
 made z = record { server = newServer z; refusal = settingsRefusal z }
-
--- the profile that a request names; 0 where it names none, and then what is put back there is what stood there
-abbrev pub profileOf : Request → ℕ
-profileOf Hello = 0
-profileOf KeepAlive = 0
-profileOf (Ask p m) = p
-profileOf (Release p) = p
-profileOf (Keep p) = p
 
 -- all that a station had goes, where it said hello
 abbrev pub wipedIf : Bool → ℕ → List Profile → List Profile

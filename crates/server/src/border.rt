@@ -1,17 +1,17 @@
 // The borders of the server: from a received message to an event, and from an answer to the messages that it sends.
 use crate::event::Answer;
 use crate::event::Event;
-use crate::event::Request;
-use modes::Mode;
 use record::Message;
 use record::Run;
 use record::Written;
+use requests::Asked;
 use timing::settings::Settings;
 ghost use mathlib.Core.Path.{_≡_};
+ghost use Rattle.record.specs.Message.{message};
 ghost use Rattle.record.specs.Run.{runAnswer, runContent};
 ghost use mathlib.Core.List.{[], _∷_};
 ghost use Rattle.timing.specs.Limits.{mostStations};
-ghost use Rattle.server.specs.Border.{saidMeant, eventOf, message, demandsFrom, sentFor};
+ghost use Rattle.server.specs.Border.{saidMeant, eventOf, demandsFrom, sentFor};
 ghost use Rattle.server.specs.Run.{blank, runOf, added};
 
 // An event, or a message of the other side's kinds, which is the caller's to drop.
@@ -24,17 +24,9 @@ pub enum Meant {
 pub fn event_of(m: Message) -> Meant
     ensures { λ r. ⌜ saidMeant r ≡ saidMeant (eventOf m) ⌝ }
 {
-    let kind = m.kind;
-    match kind {
-        1 => Meant::For(Event::Message(m.station, m.number, Request::Hello)),
-        2 => Meant::For(Event::Message(m.station, m.number, Request::KeepAlive)),
-        3 => {
-            let asked = Request::Ask(m.profile, Mode(m.mode));
-            Meant::For(Event::Message(m.station, m.number, asked))
-        }
-        4 => Meant::For(Event::Message(m.station, m.number, Request::Release(m.profile))),
-        5 => Meant::For(Event::Message(m.station, m.number, Request::Keep(m.profile))),
-        _ => Meant::NotForServer,
+    match requests::request_of(m) {
+        Asked::For(request) => Meant::For(Event::Message(m.station, m.number, request)),
+        Asked::Nothing => Meant::NotForServer,
     }
 }
 

@@ -1,14 +1,6 @@
 // What can happen to a server, and what it answers.
 use modes::Mode;
-
-// What a station's message asks. Profile and mode are numbers as received.
-pub enum Request {
-    Hello,
-    KeepAlive,
-    Ask(u8, Mode),
-    Release(u8),
-    Keep(u8),
-}
+pub use requests::Request;
 
 // A message of a station with its number, or a tick of the server's clock.
 pub enum Event {

@@ -1,5 +1,5 @@
 // The mark of a station on a profile: whether its mode was demanded, and since when, or kept.
-use crate::member::passed;
+use timing::reading::Reading;
 use timing::settings::Settings;
 ghost use mathlib.Core.Path.{_≡_};
 ghost use Rattle.masks.specs.Mask.{mask, changeUnder};
@@ -100,7 +100,7 @@ fn is_one(mark: Mark, which: Which) -> bool
         },
         Which::Late { now, answer } => match mark {
             Mark::Unmarked => false,
-            Mark::Demanded(since) => passed(since, answer, now),
+            Mark::Demanded(since) => Reading::passed(since, answer, now),
             Mark::Kept => false,
         },
     }

@@ -1,8 +1,9 @@
 // What the server knows of a station: whether it is live, and the number of its last message.
+use timing::reading::Reading;
 use timing::settings::Settings;
 ghost use mathlib.Core.Path.{_≡_};
 ghost use Rattle.masks.specs.Mask.{mask, changeUnder};
-ghost use Rattle.server.specs.Sets.{passed, membersWith, restatus};
+ghost use Rattle.server.specs.Sets.{membersWith, restatus};
 ghost use Rattle.server.specs.Under.{statusTest, lowest};
 
 pub enum Status {
@@ -38,19 +39,9 @@ fn is_one(status: Status, which: Which) -> bool
         Which::Waited { now, wait } => match status {
             Status::Unknown => false,
             Status::Live => false,
-            Status::TimingOut(since) => passed(since, wait, now),
+            Status::TimingOut(since) => Reading::passed(since, wait, now),
         },
     }
-}
-
-// Whether a time that began at `since` has run `length` ticks or more.
-pub fn passed(since: u64, length: u64, now: u64) -> bool
-    ensures { λ r. ⌜ r ≡ passed since length now ⌝ }
-{
-    if now < since {
-        return false;
-    }
-    length <= now - since
 }
 
 pub fn members_in(members: Members, which: Which) -> u64

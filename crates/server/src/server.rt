@@ -16,9 +16,10 @@ ghost use mathlib.Core.Path.{_≡_};
 ghost use Prim.Native.Nat.{_<_};
 ghost use Rattle.timing.specs.Limits.{mostStations, mostProfiles};
 ghost use Rattle.timing.specs.Settings.{wait, waitAnswer};
-ghost use Rattle.server.specs.Refusal.{requestRefusal, profileRefusal, eventRefusal, refusal};
+ghost use Rattle.server.specs.Refusal.{eventRefusal, refusal};
 ghost use Rattle.server.specs.Said.{said};
-ghost use Rattle.server.specs.Step.{profileOf, made, message, tick, step};
+ghost use Rattle.requests.specs.Request.{profileOf};
+ghost use Rattle.server.specs.Step.{made, message, tick, step};
 
 pub struct Server {
     settings: Settings,
@@ -38,30 +39,6 @@ pub struct Served {
     pub answer: Answer,
 }
 
-// 3 and 4: a profile or a mode out of range.
-fn request_refusal(profiles: u64, request: Request) -> u8
-    ensures { λ r. ⌜ r ≡ requestRefusal profiles request ⌝ }
-{
-    match request {
-        Request::Hello => 0,
-        Request::KeepAlive => 0,
-        Request::Ask(profile, mode) => {
-            if profile as u64 >= profiles {
-                return 3;
-            }
-            if mode.is_mode() { 0 } else { 4 }
-        }
-        Request::Release(profile) => profile_refusal(profiles, profile),
-        Request::Keep(profile) => profile_refusal(profiles, profile),
-    }
-}
-
-fn profile_refusal(profiles: u64, profile: u8) -> u8
-    ensures { λ r. ⌜ r ≡ profileRefusal profiles profile ⌝ }
-{
-    if profile as u64 >= profiles { 3 } else { 0 }
-}
-
 // 2 to 4: what the event names is out of range.
 fn event_refusal(settings: Settings, event: Event) -> u8
     ensures { λ r. ⌜ r ≡ eventRefusal settings event ⌝ }
@@ -71,7 +48,7 @@ fn event_refusal(settings: Settings, event: Event) -> u8
             if station as u64 >= settings.stations() {
                 return 2;
             }
-            request_refusal(settings.profiles(), request)
+            requests::request_refusal(settings.profiles(), request)
         }
         Event::Tick => 0,
     }
@@ -88,26 +65,7 @@ fn refusal(settings: Settings, last: u64, reading: u64, event: Event) -> u8
     if named != 0 {
         return named;
     }
-    if Reading::LIMIT < reading {
-        return 5;
-    }
-    if reading < last {
-        return 6;
-    }
-    0
-}
-
-// The profile that a request names, 0 where it names none.
-fn profile_of(request: Request) -> u8
-    ensures { λ r. ⌜ r ≡ profileOf request ⌝ }
-{
-    match request {
-        Request::Hello => 0,
-        Request::KeepAlive => 0,
-        Request::Ask(profile, _) => profile,
-        Request::Release(profile) => profile,
-        Request::Keep(profile) => profile,
-    }
+    Reading::refusal(last, reading)
 }
 
 impl Server {
@@ -155,7 +113,7 @@ impl Server {
         ensures { λ r. ⌜ r ≡ message self reading station number request ⌝ }
     {
         let i = station as usize;
-        let at = profile_of(request) as usize;
+        let at = requests::profile_of(request) as usize;
         let members = self.members;
         let member = self.members[i];
         let profile = self.profiles[at];

@@ -15,11 +15,14 @@ use Rattle.modes.specs.declared.Mode.{Mode}
 use Rattle.modes.proofs.Laws.{all2, mode-number, writes-mode}
 use Rattle.modes.proofs.Range.{implied}
 use Rattle.timing.specs.Limits.{readingLimit}
-use Rattle.station.specs.Event.{Event, Begin, Edit, WriteOut}
-use Rattle.station.specs.Hold.{Hold, mostStarted, withUnwritten, changed}
-use Rattle.station.specs.Stage.{Stage, isOut, passed}
-use Rattle.station.specs.Refusal.{orElse, ownRefusal, namedRefusal, profileRefusal, modeRefusal, stationOf, readingRefusal, refusal, useRefusal}
-use Rattle.station.specs.Rules.{startedRefusal, beginRefusal, editRefusal, writeOutRefusal}
+use Rattle.station.specs.Event.{Event, Begin, Edit, WriteOut, Hold, Stage}
+use Rattle.room.specs.Hold.{mostStarted, withUnwritten, changed}
+use Rattle.room.specs.Stage.{isOut}
+use Rattle.timing.specs.Reading.{passed}
+use Rattle.timing.specs.Reading.{orElse, readingRefusal}
+use Rattle.room.specs.Refusal.{ownRefusal, namedRefusal, stationOf, refusal, useRefusal}
+use Rattle.requests.specs.Request.{profileRefusal}
+use Rattle.room.specs.Rules.{startedRefusal, beginRefusal, editRefusal, writeOutRefusal}
 use Rattle.station.specs.Effect.{Answer, begun}
 use Rattle.station.specs.declared.event.Answer.the-variants.{Done, Refused}
 use Rattle.station.specs.declared.event.UseAnswer.the-variants.{Yes}
@@ -154,7 +157,7 @@ module _ (s : Station) (now : ℕ) where
   begin-uses p m q =
       let T = taken s now (Begin p m) q in
       let named = named-and-reading (Begin p m) (T .good) .0 in
-      let pair = cond-else (leb (s .settings .profiles) p) (modeRefusal (isMode (m .0))) 2 named in
+      let pair = cond-else (leb (s .settings .profiles) p) (cond (isMode (m .0)) 0 4) 2 named in
       let asked : isMode (m .0) ≡ true = cond-zero (isMode (m .0)) 0 3 (pair .1) .0 in
       let profile : profileRefusal (s .settings .profiles) p ≡ 0 = ap (λ (b : Bool). cond b 3 0) (pair .0) in
       let L = in-lease (begin-facts (stageOf (expire s now)) (holdAt (expire s now) p) (m .0) (T .allowed) .0) in

@@ -9,11 +9,12 @@ use lib.ListN.{length, getD, replicate, length-set}
 use lib.Seq.{getD-set-same, getD-set-other}
 use borrow.Author.Tests.{eqb-true, eqb-false}
 use Rattle.timing.specs.Limits.{mostProfiles}
-use Rattle.station.specs.Event.{Request, Hello, KeepAlive, Ask, Release, Keep, Ack, Done, Granted, Wait, InUse, Event, Send, Begin, Edit, End, WriteOut, Restart, Acked, Nacked, Demand}
-use Rattle.station.specs.Hold.{Hold, noHold, noHolds, holdIn, withMode, withUnwritten, changed}
-use Rattle.station.specs.Rules.{ackProfile}
+use Rattle.station.specs.Event.{Request, Hello, KeepAlive, Ask, Release, Keep, Ack, Done, Granted, Wait, InUse, Event, Send, Begin, Edit, End, WriteOut, Restart, Acked, Nacked, Demand, Hold}
+use Rattle.room.specs.Hold.{noHold, noHolds, holdIn, withMode, withUnwritten, changed}
+use Rattle.room.specs.Rules.{ackProfile}
 use Rattle.station.specs.Effect.{standingAfter, sentAt, startAfter, lastAfter, waitingAfter, holdsAfter, begun, ended}
-use Rattle.station.specs.Station.{Station, holdAt, modeOf, gone, atReading, isOver, endedIf, expire, isRestart, profileOf, after}
+use Rattle.station.specs.Station.{Station, holdAt, modeOf, gone, atReading, isOver, endedIf, expire, isRestart, after}
+use Rattle.requests.specs.Request.{profileOf}
 
 -- the lease's end
 module _ (s : Station) (now : ℕ) where

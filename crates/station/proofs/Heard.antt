@@ -10,9 +10,11 @@ use Rattle.timing.specs.Limits.{readingLimit, mostProfiles}
 use Rattle.timing.specs.Settings.{inRange}
 use Rattle.timing.proofs.Ranges.{ranges}
 use Rattle.station.specs.Event.{Hello, KeepAlive, Ask, Release, Keep, Done, Granted, Wait, InUse, Event, Send, Begin, Edit, End, WriteOut, Restart, Acked, Nacked, Demand}
-use Rattle.station.specs.Refusal.{modeRefusal, pairRefusal, namedRefusal, stationOf, ownRefusal, readingRefusal, refusal}
+use Rattle.room.specs.Refusal.{namedRefusal, stationOf, ownRefusal, refusal}
+use Rattle.requests.specs.Request.{pairRefusal}
+use Rattle.timing.specs.Reading.{readingRefusal}
 use Rattle.station.specs.Station.{Station, refusalOf}
-use Rattle.station.proofs.Choice.{allows, passes, inside, later, own-of}
+use Rattle.timing.proofs.Choice.{allows, passes, inside, or-zero}
 use Rattle.station.proofs.Frames.{profileFor}
 
 pub record Heard (s : Station) (now : ℕ) (e : Event) : Type 0 where
@@ -28,16 +30,16 @@ unfolding refusal
 heard s now e h =
     let z = s .settings in
     let i = s .number in
-    let o : ownRefusal z i ≡ 0 = own-of (ownRefusal z i) _ h in
-    let b = later (ownRefusal z i) _ h in
+    let o : ownRefusal z i ≡ 0 = or-zero (ownRefusal z i) _ h .0 in
+    let b = or-zero (ownRefusal z i) _ h .1 in
     let rest = inside (eqb (stationOf i e) i) _ 2 b (λ q. omega arith) in
-    let r : readingRefusal (s .reading) now ≡ 0 = later (namedRefusal (z .profiles) e) _ rest in
+    let r : readingRefusal (s .reading) now ≡ 0 = or-zero (namedRefusal (z .profiles) e) _ rest .1 in
     let g : inRange z ≡ true = allows (inRange z) _ 1 o (λ q. omega arith) in
     record {
       range = g;
       own = leb-false (z .stations) i (not-2 (leb (z .stations) i) (inside (inRange z) _ 1 o (λ q. omega arith)));
       mine = eqb-true (stationOf i e) i (allows (eqb (stationOf i e) i) _ 2 b (λ q. omega arith));
-      named = own-of (namedRefusal (z .profiles) e) _ rest;
+      named = or-zero (namedRefusal (z .profiles) e) _ rest .0;
       limit = ltb-false readingLimit now (not-5 (ltb readingLimit now) _ r);
       forward = ltb-false now (s .reading) (not-6 (ltb now (s .reading)) (passes (ltb readingLimit now) 5 _ r (λ q. omega arith)));
     }
@@ -88,8 +90,4 @@ heard-profile s now e h =
 
 -- a mode begun or granted is one of the six
 pub named-mode : (n p : ℕ) (g : Bool) → pairRefusal n p g ≡ 0 → g ≡ true
-named-mode n p g e = good g (passes (leb n p) 3 (modeRefusal g) e (λ q. omega arith))
-  where
-    good : (g : Bool) → modeRefusal g ≡ 0 → g ≡ true
-    good true q = refl
-    good false q = absurd (omega arith)
+named-mode n p g e = allows g 0 4 (passes (leb n p) 3 (cond g 0 4) e (λ q. omega arith)) (λ q. omega arith)

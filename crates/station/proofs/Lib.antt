@@ -1,4 +1,3 @@
-pub mod Choice
 pub mod Ways
 pub mod Said
 pub mod Steps

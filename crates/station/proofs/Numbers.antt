@@ -8,8 +8,7 @@ use native.Mathlib.Numerals.{add-one}
 use native.Mathlib.Nat.{not-suc-le-zero, le-of-suc-le-suc}
 use lib.ListN.{length, getD}
 use Rattle.timing.specs.declared.settings.Settings.{Settings}
-use Rattle.station.specs.Event.{Event, Send, Begin, Edit, End, WriteOut, Restart, Acked, Nacked, Demand}
-use Rattle.station.specs.Hold.{Hold}
+use Rattle.station.specs.Event.{Event, Send, Begin, Edit, End, WriteOut, Restart, Acked, Nacked, Demand, Hold}
 use Rattle.station.specs.Effect.{lastAfter, Answer, answerTo}
 use Rattle.station.specs.Station.{Station, Stepped, newStation, expire, step}
 use Rattle.station.specs.declared.event.Answer.the-variants as answer

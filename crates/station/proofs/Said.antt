@@ -12,7 +12,7 @@ use Rattle.station.specs.declared.event.Advice.the-variants as advice
 use Rattle.station.specs.declared.event.Answer.the-variants as answer
 use Rattle.station.specs.declared.event.PhaseAnswer.the-variants as phase
 use Rattle.station.specs.declared.event.UseAnswer.the-variants as use'
-use Rattle.station.proofs.Choice.{both}
+use Rattle.timing.proofs.Choice.{both}
 
 -- an answer back from its numbers
 abbrev byAdvice : ℕ → Answer

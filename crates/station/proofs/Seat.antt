@@ -14,14 +14,17 @@ use Rattle.record.specs.declared.message.Message.{Message}
 use Rattle.modes.specs.Modes.{mode}
 use Rattle.modes.specs.declared.Mode.{Mode}
 use Rattle.timing.specs.declared.settings.Settings.{Settings}
-use Rattle.station.specs.Event.{Request, Hello, KeepAlive, Ask, Release, Keep, Waiting, Nothing, Sent, Ack, Done, Granted, Wait, InUse, Event}
-use Rattle.station.specs.Hold.{Hold, noHold, noHolds, withMode, changed}
-use Rattle.station.specs.Stage.{Standing, Out, Open, Closing, isOut, passed, Stage}
-use Rattle.station.specs.Refusal.{orElse, ownRefusal, namedRefusal, ackRefusal, stationOf, readingRefusal, refusal}
-use Rattle.station.specs.Rules.{fits, ackForbids, sendRefusal, numberRefusal}
+use Rattle.station.specs.Event.{Request, Hello, KeepAlive, Ask, Release, Keep, Waiting, Nothing, Sent, Ack, Done, Granted, Wait, InUse, Event, Hold, Standing, Out, Open, Closing, Stage}
+use Rattle.room.specs.Hold.{noHold, noHolds, withMode, changed}
+use Rattle.room.specs.Stage.{isOut}
+use Rattle.timing.specs.Reading.{passed}
+use Rattle.timing.specs.Reading.{orElse, readingRefusal}
+use Rattle.room.specs.Refusal.{ownRefusal, namedRefusal, ackRefusal, stationOf, refusal}
+use Rattle.room.specs.Rules.{fits, ackForbids, sendRefusal, numberRefusal}
 use Rattle.station.specs.Effect.{Answer, nacked, holdsSent, holdsAcked}
 use Rattle.station.specs.declared.event.Answer.the-variants as answer
-use Rattle.station.specs.Border.{messageOf, sentBy}
+use Rattle.requests.specs.Request.{messageOf}
+use Rattle.station.specs.Border.{sentBy}
 
 abbrev pub modeIn : List Hold → ℕ → ℕ
 modeIn holds p = getD holds p noHold .mode .0

@@ -12,11 +12,12 @@ use Rattle.timing.specs.declared.settings.Settings.{Settings}
 use Rattle.timing.specs.declared.settings.Phase.{Phase}
 use Rattle.timing.specs.declared.settings.Phase.the-variants as phase
 use Rattle.timing.specs.Phase.{phaseAfter}
-use Rattle.station.specs.Event.{Request, Hello, KeepAlive, Ask, Release, Keep, Waiting, Nothing, Sent, Ack, Granted, Send, Edit, End, WriteOut, Acked, Nacked}
-use Rattle.station.specs.Stage.{Standing, Out, Open, Closing, isOut, passed, closingPhase, phaseAt, early, Stage}
-use Rattle.station.specs.Rules.{numberRefusal, releaseRefusal, startedRefusal, sendingRefusal, sendRefusal, beginRefusal, editRefusal, endRefusal, writeOutRefusal, fits, ackProfile, ackForbids, nackForbids}
+use Rattle.station.specs.Event.{Request, Hello, KeepAlive, Ask, Release, Keep, Waiting, Nothing, Sent, Ack, Granted, Send, Edit, End, WriteOut, Acked, Nacked, Standing, Out, Open, Closing, Stage}
+use Rattle.room.specs.Stage.{isOut, closingPhase, phaseAt, early}
+use Rattle.timing.specs.Reading.{passed}
+use Rattle.room.specs.Rules.{numberRefusal, releaseRefusal, startedRefusal, sendingRefusal, sendRefusal, beginRefusal, editRefusal, endRefusal, writeOutRefusal, fits, ackProfile, ackForbids, nackForbids}
 use Rattle.station.specs.Station.{Station, holdAt, modeOf, startedOf, unwrittenOf, leaseOf, stageOf, forbids}
-use Rattle.station.proofs.Choice.{own-of}
+use Rattle.timing.proofs.Choice.{or-zero}
 
 -- a rule that starts with 8 and then 9
 in-8 : (t : Bool) (b : ℕ) → cond t 8 b ≡ 0 → (t ≡ false) × (b ≡ 0)
@@ -70,7 +71,7 @@ sending : (stage : Stage) (own last : ℕ) → sendingRefusal stage own last ≡
 sending stage own last e =
     let o = in-8 (stage .out) _ e in
     let f = in-9 (stage .early) _ (o .1) in
-    (o .0, f .0, own-of own (numberRefusal last) (f .1))
+    (o .0, f .0, or-zero own (numberRefusal last) (f .1) .0)
 
 abbrev pub isHello : Request → Bool
 isHello Hello = true

@@ -14,11 +14,11 @@ use Rattle.modes.proofs.Range.{implied}
 use Rattle.modes.proofs.Laws.{all2, mode-number}
 use Rattle.timing.specs.Limits.{readingLimit, mostProfiles}
 use Rattle.timing.specs.declared.settings.Settings.{Settings}
-use Rattle.station.specs.Event.{Request, Hello, KeepAlive, Ask, Release, Keep, Waiting, Nothing, Sent, Done, Granted, Wait, InUse, Event, Send, Begin, Edit, End, WriteOut, Restart, Acked, Nacked, Demand}
-use Rattle.station.specs.Hold.{Hold, noHold}
-use Rattle.station.specs.Stage.{Standing, Out, Open, Closing, isOut}
-use Rattle.station.specs.Refusal.{namedRefusal}
-use Rattle.station.specs.Rules.{lastNumber}
+use Rattle.station.specs.Event.{Request, Hello, KeepAlive, Ask, Release, Keep, Waiting, Nothing, Sent, Done, Granted, Wait, InUse, Event, Send, Begin, Edit, End, WriteOut, Restart, Acked, Nacked, Demand, Hold, Standing, Out, Open, Closing}
+use Rattle.room.specs.Hold.{noHold}
+use Rattle.room.specs.Stage.{isOut}
+use Rattle.room.specs.Refusal.{namedRefusal}
+use Rattle.room.specs.Rules.{lastNumber}
 use Rattle.station.specs.Effect.{nacked, sentAt, begun}
 use Rattle.station.specs.Station.{Station, holdAt, modeOf, startedOf, unwrittenOf, newStation, gone, atReading, isOver, expire, isRestart, refusalOf, forbids, after, step}
 use Rattle.station.proofs.Ways.{free}

@@ -5,8 +5,7 @@ use mathlib.Core.Bool.{Bool, true, false≢true}
 use mathlib.Core.List.{List}
 use Prim.Native.Nat.{ℕ, zero, suc}
 use Rattle.masks.specs.Mask.{mask, count}
-use Rattle.station.specs.Event.{Hello, KeepAlive, Ask, Release, Keep, Event, Send, Begin, Edit, End, WriteOut, Restart, Acked, Nacked, Demand}
-use Rattle.station.specs.Hold.{Hold}
+use Rattle.station.specs.Event.{Hello, KeepAlive, Ask, Release, Keep, Event, Send, Begin, Edit, End, WriteOut, Restart, Acked, Nacked, Demand, Hold}
 use Rattle.station.specs.Effect.{lastAfter, Answer, answerTo}
 use Rattle.station.specs.Station.{Station, Stepped, expire, lost, refusalOf, forbids, after, stepped, ifAllowed, ifGood, step}
 use Rattle.station.specs.Said.{said}

@@ -11,11 +11,14 @@ use Rattle.modes.proofs.Laws.{writes-mode}
 use Rattle.timing.specs.Limits.{readingLimit}
 use Rattle.timing.specs.Settings.{inRange}
 use Rattle.station.specs.Event.{Event, Begin, Edit, WriteOut}
-use Rattle.station.specs.Stage.{isOut, passed}
-use Rattle.station.specs.Refusal.{orElse, profileRefusal, ownRefusal, readingRefusal, useRefusal}
+use Rattle.room.specs.Stage.{isOut}
+use Rattle.timing.specs.Reading.{passed}
+use Rattle.timing.specs.Reading.{orElse, readingRefusal}
+use Rattle.requests.specs.Request.{profileRefusal}
+use Rattle.room.specs.Refusal.{ownRefusal, useRefusal}
 use Rattle.station.specs.Station.{Station, modeOf, leaseOf, atReading, isOver, expire, step, ifUse, mayUse}
 use Rattle.station.specs.declared.event.UseAnswer.the-variants as use'
-use Rattle.station.proofs.Choice.{both}
+use Rattle.timing.proofs.Choice.{both}
 use Rattle.station.proofs.Steps.{isGood, good-done}
 use Rattle.station.proofs.Frames.{ends, lasts}
 use Rattle.station.proofs.Shown.{begin-shows, edit-shows, write-shows}

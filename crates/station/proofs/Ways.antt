@@ -17,17 +17,18 @@ use Rattle.timing.specs.Phase.{saidPhase, phaseAfter}
 use Rattle.timing.proofs.Said.{phase-told}
 use Rattle.timing.specs.declared.settings.Settings.{Settings}
 use Rattle.timing.specs.Settings.{lease, inRange, leaseAnswer}
-use Rattle.station.specs.Event.{Request, Hello, KeepAlive, Ask, Release, Keep, Waiting, Ack, Event, Send, Begin, Edit, End, WriteOut, Restart, Acked, Nacked, Demand}
-use Rattle.station.specs.Hold.{Hold, holdIn}
-use Rattle.station.specs.Stage.{Standing, Out, Open, Closing, isOut, Stage, passed, openPhase, closingPhase, phaseAt}
-use Rattle.station.specs.Refusal.{ownRefusal, refusal, useRefusal}
-use Rattle.station.specs.Rules.{lastNumber, numberRefusal, releaseRefusal, startedRefusal, sendingRefusal, sendRefusal, beginRefusal, endRefusal, ackProfile, ackForbids}
+use Rattle.station.specs.Event.{Request, Hello, KeepAlive, Ask, Release, Keep, Waiting, Ack, Event, Send, Begin, Edit, End, WriteOut, Restart, Acked, Nacked, Demand, Hold, Standing, Out, Open, Closing, Stage}
+use Rattle.room.specs.Hold.{holdIn}
+use Rattle.room.specs.Stage.{isOut, openPhase, closingPhase, phaseAt}
+use Rattle.timing.specs.Reading.{passed}
+use Rattle.room.specs.Refusal.{ownRefusal, refusal, useRefusal}
+use Rattle.room.specs.Rules.{lastNumber, numberRefusal, releaseRefusal, startedRefusal, sendingRefusal, sendRefusal, beginRefusal, endRefusal, ackProfile, ackForbids}
 use Rattle.station.specs.Effect.{standingAfter, sentAt, startAfter, lastAfter, waitingAfter, holdsAfter, numberFree, countFree, Answer, answerTo}
 use Rattle.station.specs.Station.{Station, Stepped, leaseOf, isOver, endedIf, expire, lost, lostIf, isRestart, forbids, after, stepped, ifAllowed, judged, ifGood, step, ifAsked, usable, ifUse, holdAt, stageOf, mayUse}
 use Rattle.station.specs.declared.event.Answer.the-variants as answer
 use Rattle.station.specs.declared.event.PhaseAnswer.the-variants as phase
 use Rattle.station.specs.declared.event.UseAnswer.the-variants as use'
-use Rattle.station.proofs.Choice.{both, below-not, allows, passes, inside, later, own-of}
+use Rattle.timing.proofs.Choice.{both, below-not, allows, passes, inside, or-zero}
 
 number-free : (last : ℕ) → numberRefusal last ≡ 0 → ltb last lastNumber ≡ true
 number-free last e = allows (ltb last lastNumber) 0 13 e (λ z. omega arith)
@@ -35,7 +36,7 @@ number-free last e = allows (ltb last lastNumber) 0 13 e (λ z. omega arith)
 -- where nothing forbids an event, what it counts has room
 sending-free : (stage : Stage) (own last : ℕ) → sendingRefusal stage own last ≡ 0 → ltb last lastNumber ≡ true
 sending-free stage own last e =
-    number-free last (later own _ (inside (stage .early) _ 9 (passes (stage .out) 8 _ e (λ z. omega arith)) (λ z. omega arith)))
+    number-free last (or-zero own _ (inside (stage .early) _ 9 (passes (stage .out) 8 _ e (λ z. omega arith)) (λ z. omega arith)) .1)
 
 send-free : (stage : Stage) (h : Hold) (last : ℕ) (q : Request) → sendRefusal stage h last q ≡ 0 → ltb last lastNumber ≡ true
 unfolding sendRefusal
@@ -98,11 +99,11 @@ own-good z own e = allows (inRange z) _ 1 e (λ z. omega arith)
 
 pub good-settings : (z : Settings) (own last now : ℕ) (e : Event) → refusal z own last now e ≡ 0 → inRange z ≡ true
 unfolding refusal
-good-settings z own last now e h = own-good z own (own-of _ _ h)
+good-settings z own last now e h = own-good z own (or-zero _ _ h .0)
 
 pub good-asked : (z : Settings) (own last now p : ℕ) → useRefusal z own last now p ≡ 0 → inRange z ≡ true
 unfolding useRefusal
-good-asked z own last now p h = own-good z own (own-of _ _ h)
+good-asked z own last now p h = own-good z own (or-zero _ _ h .0)
 
 pub lease-is : (z : Settings) → inRange z ≡ true → leaseAnswer z ≡ lease z
 lease-is z e = ap (λ (t : Bool). cond t (lease z) 0) e
@@ -200,23 +201,6 @@ module _ (s : Station) (now p r : ℕ) (d : r ≡ useRefusal (s .settings) (s .n
 
       pub use-leased : o ≡ false → use'.Yes ≡ mayUse s now p
       use-leased b = answered true (by-lease ∙ ap not b)
-
--- the phase of a station; f is what the settings answer of the ticks since its lease's start
-module _ (z : Settings) (σ : Standing) (start now t : ℕ) (e : t ≡ now - start) (f : Phase) (d : saidPhase f ≡ saidPhase (phaseAfter z t)) where
-  in-phase : f ≡ phaseAfter z (now - start)
-  in-phase = phase-told f (phaseAfter z t) d ∙ ap (phaseAfter z) e
-
-  pub phase-open : (r : ℕ) → r ≡ openPhase f → σ ≡ Open → r ≡ phaseAt z σ start now
-  unfolding phaseAt
-  phase-open r g o = g ∙ ap openPhase in-phase ∙ sym (ap (λ (σ : Standing). phaseAt z σ start now) o)
-
-  pub phase-closing : (r : ℕ) → r ≡ closingPhase f → σ ≡ Closing → r ≡ phaseAt z σ start now
-  unfolding phaseAt
-  phase-closing r g o = g ∙ ap closingPhase in-phase ∙ sym (ap (λ (σ : Standing). phaseAt z σ start now) o)
-
-pub phase-none : (z : Settings) (σ : Standing) (start now : ℕ) → σ ≡ Out → 0 ≡ phaseAt z σ start now
-unfolding phaseAt
-phase-none z σ start now o = sym (ap (λ (σ : Standing). phaseAt z σ start now) o)
 
 -- a count that goes up or down has room
 module _ (holds : List Hold) (e : Event) (d : countFree holds e ≡ true) (p : ℕ) (h : Hold) (f : h ≡ holdIn holds p) where

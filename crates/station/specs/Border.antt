@@ -3,6 +3,7 @@ use mathlib.Core.Bool.{Bool, true, false}
 use mathlib.Core.List.{List, [], _∷_}
 use Prim.Native.Nat.{ℕ, zero, suc}
 use Rattle.modes.specs.Modes.{mode}
+use Rattle.requests.specs.Request.{messageOf}
 use Rattle.record.specs.declared.message.Message.{Message}
 use Rattle.station.specs.Event.{Request, Hello, KeepAlive, Ask, Release, Keep, Ack, Done, Granted, Wait, InUse, Event, Send, Begin, Edit, End, WriteOut, Restart, Acked, Nacked, Demand}
 use Rattle.station.specs.Effect.{Answer}
@@ -87,18 +88,6 @@ abbrev pub saidMeant : Meant → SaidMeant
 saidMeant (For e) = saidEvent e
 saidMeant NotForRoom =
     record { good = false; own = 0; kind = 0; station = 0; number = 0; profile = 0; mode = 0; detail = 0 }
-
-abbrev pub message : ℕ → ℕ → ℕ → ℕ → ℕ → ℕ → Message
-message kind station number profile mode detail =
-    record { kind = kind; station = station; number = number; profile = profile; mode = mode; detail = detail }
-
--- "1 hello and 2 keep-alive: 255, 0, 0. 3 ask: profile .., mode .., 0. 4 release and 5 keep: profile, 0, 0."
-unfoldable pub messageOf : ℕ → ℕ → Request → Message
-messageOf own number Hello = message 1 own number 255 0 0
-messageOf own number KeepAlive = message 2 own number 255 0 0
-messageOf own number (Ask p m) = message 3 own number p (m .0) 0
-messageOf own number (Release p) = message 4 own number p 0 0
-messageOf own number (Keep p) = message 5 own number p 0 0
 
 -- what an answer sends
 unfoldable pub sentBy : ℕ → Answer → List Message

@@ -1,8 +1,4 @@
 pub mod Event
-pub mod Hold
-pub mod Stage
-pub mod Refusal
-pub mod Rules
 pub mod Effect
 pub mod Station
 pub mod Said

@@ -4,14 +4,16 @@ use mathlib.Core.List.{List, []}
 use Prim.Native.Nat.{ℕ, zero, suc, _+_}
 use lib.Dec.{ltb}
 use Rattle.masks.specs.Mask.{Set, mask, count}
+use Rattle.requests.specs.Request.{profileOf}
 use Rattle.modes.specs.Modes.{isMode}
 use Rattle.timing.specs.declared.settings.Settings.{Settings}
 use Rattle.timing.specs.Settings.{lease}
-use Rattle.station.specs.Event.{Request, Hello, KeepAlive, Ask, Release, Keep, Nothing, Event, Send, Begin, Edit, End, WriteOut, Restart, Acked, Nacked, Demand}
-use Rattle.station.specs.Hold.{Hold, noHolds, holdIn, unwrittenSet}
-use Rattle.station.specs.Stage.{Out, isOut, passed, phaseAt, Stage, stageAt}
-use Rattle.station.specs.Refusal.{ownRefusal, refusal, phaseRefusal, useRefusal}
-use Rattle.station.specs.Rules.{sendRefusal, beginRefusal, editRefusal, endRefusal, writeOutRefusal, demandRefusal, ackProfile, ackForbids, nackForbids}
+use Rattle.station.specs.Event.{Request, Hello, KeepAlive, Ask, Release, Keep, Nothing, Event, Send, Begin, Edit, End, WriteOut, Restart, Acked, Nacked, Demand, Hold, Out, Stage}
+use Rattle.room.specs.Hold.{noHolds, holdIn, unwrittenSet}
+use Rattle.room.specs.Stage.{isOut, phaseAt, stageAt}
+use Rattle.timing.specs.Reading.{passed}
+use Rattle.room.specs.Refusal.{ownRefusal, refusal, phaseRefusal, useRefusal}
+use Rattle.room.specs.Rules.{sendRefusal, beginRefusal, editRefusal, endRefusal, writeOutRefusal, demandRefusal, ackProfile, ackForbids, nackForbids}
 use Rattle.station.specs.Effect.{standingAfter, sentAt, startAfter, lastAfter, waitingAfter, holdsAfter, Answer, answerTo}
 use Rattle.station.specs.declared.event.Answer.the-variants as answer
 pub use Rattle.station.specs.declared.event.PhaseAnswer.{PhaseAnswer}
@@ -117,14 +119,6 @@ lostIf false holds = []
 
 abbrev pub lost : Station → ℕ → Event → Set
 lost s now e = lostIf (isOver s now && not (isRestart e)) (s .holds)
-
--- the profile that a message names; 0 where it names none, and then its hold does not matter
-abbrev pub profileOf : Request → ℕ
-profileOf Hello = 0
-profileOf KeepAlive = 0
-profileOf (Ask p m) = p
-profileOf (Release p) = p
-profileOf (Keep p) = p
 
 -- 8 to 14, at a station that has taken the event's reading
 abbrev pub forbids : Station → Event → ℕ

@@ -5,7 +5,9 @@ use crate::event::Request;
 use modes::Mode;
 use record::Message;
 ghost use mathlib.Core.Path.{_≡_};
-ghost use Rattle.station.specs.Border.{saidMeant, ackAs, eventOf, message, messageOf};
+ghost use Rattle.station.specs.Border.{saidMeant, ackAs, eventOf};
+ghost use Rattle.record.specs.Message.{message};
+ghost use Rattle.requests.specs.Request.{messageOf};
 
 // An event, or a message of the other side's kinds, which is the caller's to drop.
 pub enum Meant {
@@ -42,38 +44,9 @@ pub fn event_of(m: Message) -> Meant
     }
 }
 
-fn bare(kind: u8, own: u8, number: u32) -> Message
-    ensures { λ r. ⌜ r ≡ message kind own number 255 0 0 ⌝ }
-{
-    on_profile(kind, own, number, Message::NO_PROFILE, Message::NO_MODE)
-}
-
-fn on_profile(kind: u8, own: u8, number: u32, profile: u8, mode: u8) -> Message
-    ensures { λ r. ⌜ r ≡ message kind own number profile mode 0 ⌝ }
-{
-    Message {
-        kind,
-        station: own,
-        number,
-        profile,
-        mode,
-        detail: Message::NO_DETAIL,
-    }
-}
-
 // The message of what station `own` sends under a number.
 pub fn message_of(own: u8, number: u32, request: Request) -> Message
     ensures { λ r. ⌜ r ≡ messageOf own number request ⌝ }
 {
-    match request {
-        Request::Hello => bare(Message::HELLO, own, number),
-        Request::KeepAlive => bare(Message::KEEP_ALIVE, own, number),
-        Request::Ask(profile, asked) => on_profile(Message::ASK, own, number, profile, asked.0),
-        Request::Release(profile) => {
-            on_profile(Message::RELEASE, own, number, profile, Message::NO_MODE)
-        }
-        Request::Keep(profile) => {
-            on_profile(Message::KEEP, own, number, profile, Message::NO_MODE)
-        }
-    }
+    requests::message_of(own, number, request)
 }

@@ -2,8 +2,4 @@
 pub mod border;
 mod effect;
 pub mod event;
-pub mod hold;
-mod refusal;
-mod rules;
-pub mod stage;
 pub mod station;

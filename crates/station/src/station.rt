@@ -3,15 +3,15 @@ use crate::effect;
 use crate::event::Answer;
 use crate::event::Event;
 use crate::event::PhaseAnswer;
-use crate::event::Request;
 use crate::event::UseAnswer;
 use crate::event::Waiting;
-use crate::hold;
-use crate::hold::Hold;
-use crate::refusal;
-use crate::rules;
-use crate::stage;
-use crate::stage::Standing;
+use room::hold;
+use room::hold::Hold;
+use room::refusal;
+use room::rules;
+use room::stage;
+use room::stage::Standing;
+use timing::reading::Reading;
 use timing::settings::Settings;
 ghost use mathlib.Core.Path.{_≡_};
 ghost use mathlib.Core.Bool.{true, _&&_, not};
@@ -19,8 +19,10 @@ ghost use lib.Count.{ones};
 ghost use Rattle.masks.specs.Mask.{mask};
 ghost use Rattle.timing.specs.Settings.{inRange};
 ghost use Rattle.station.specs.Effect.{numberFree, countFree};
-ghost use Rattle.station.specs.Stage.{isOut, passed};
-ghost use Rattle.station.specs.Station.{isRestart, lostIf, endedIf, profileOf, forbids, after, made, step, judged, phaseAsked, mayUse};
+ghost use Rattle.room.specs.Stage.{isOut};
+ghost use Rattle.timing.specs.Reading.{passed};
+ghost use Rattle.station.specs.Station.{isRestart, lostIf, endedIf, forbids, after, made, step, judged, phaseAsked, mayUse};
+ghost use Rattle.requests.specs.Request.{profileOf};
 ghost use Rattle.station.specs.Said.{told, saidPhase, saidUse};
 
 pub struct Station {
@@ -85,20 +87,7 @@ fn lease_over(standing: Standing, start: u64, lease: u64, reading: u64) -> bool
     if stage::is_out(standing) {
         return false;
     }
-    stage::passed(start, lease, reading)
-}
-
-// The profile that a message names, 0 where it names none.
-fn profile_of(request: Request) -> u8
-    ensures { λ r. ⌜ r ≡ profileOf request ⌝ }
-{
-    match request {
-        Request::Hello => 0,
-        Request::KeepAlive => 0,
-        Request::Ask(profile, _) => profile,
-        Request::Release(profile) => profile,
-        Request::Keep(profile) => profile,
-    }
+    Reading::passed(start, lease, reading)
 }
 
 impl Station {
@@ -204,7 +193,12 @@ impl Station {
         let at = stage::stage_of(settings, standing, self.start, self.reading);
         match event {
             Event::Send(request) => {
-                rules::send_refusal(at, hold::hold_at(holds, profile_of(request)), last, request)
+                rules::send_refusal(
+                    at,
+                    hold::hold_at(holds, requests::profile_of(request)),
+                    last,
+                    request,
+                )
             }
             Event::Begin(profile, mode) => {
                 rules::begin_refusal(at, hold::hold_at(holds, profile), mode)
@@ -281,7 +275,7 @@ impl Station {
         if !held.is_mode() {
             return UseAnswer::No;
         }
-        if stage::passed(self.start, settings.lease(), reading) {
+        if Reading::passed(self.start, settings.lease(), reading) {
             return UseAnswer::No;
         }
         UseAnswer::Yes

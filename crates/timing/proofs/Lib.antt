@@ -5,3 +5,4 @@ pub mod Clock
 pub mod Signed
 pub mod Ticks
 pub mod Said
+pub mod Choice

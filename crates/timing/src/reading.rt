@@ -1,6 +1,6 @@
-// A clock's reading in whole ticks, and the reading that a 32-bit counter stands for.
+// A clock's reading in whole ticks, what refuses one, and the reading that a 32-bit counter stands for.
 ghost use mathlib.Core.Path.{_≡_};
-ghost use Rattle.timing.specs.Reading.{saidWidened, widened};
+ghost use Rattle.timing.specs.Reading.{saidWidened, widened, readingRefusal, passed};
 
 pub struct Reading(pub u64);
 
@@ -29,5 +29,24 @@ impl Reading {
         } else {
             Widened::Refused(5)
         }
+    }
+    // 5 and 6: above the limit; below the last one.
+    pub fn refusal(last: u64, reading: u64) -> u8
+        ensures { λ r. ⌜ r ≡ readingRefusal last reading ⌝ }
+    {
+        if Reading::LIMIT < reading {
+            return 5;
+        }
+        if reading < last { 6 } else { 0 }
+    }
+
+    // Whether a time that began at `since` has run `length` ticks or more.
+    pub fn passed(since: u64, length: u64, now: u64) -> bool
+        ensures { λ r. ⌜ r ≡ passed since length now ⌝ }
+    {
+        if now < since {
+            return false;
+        }
+        length <= now - since
     }
 }

@@ -1,7 +1,6 @@
 -- `refusal` answers the lowest of 1 to 6 that applies, or 0.
-use mathlib.Core.Path.{sym, _∙_}
 use Rattle.timing.proofs.Ranges.{good, bad}
-use Rattle.server.proofs.Refusals.{bad-settings, named, above, below, none}
+use Rattle.server.proofs.Refusals.{bad-settings, named, unnamed}
 use borrow.Author.Needs.{needs}
 use Rattle.server.proofs.server.refusal.Statement.{statement}
 use Rattle.server.proofs.server.refusal.Tie as tie
@@ -18,23 +17,13 @@ event-refusal-requires c κs = search needs
 returns-2 : tie.Need-returns-2
 returns-2 c = named _ _ _ _ (good _ _ (c .before .before .before .refusal .ensures) (c .before .before .if1 .left)) _ (c .before .event-refusal .ensures) (c .if2 .taken)
 
+refusal-requires-2 : tie.Need-refusal-requires-2
+refusal-requires-2 c κs = search needs
+
 returns-3 : tie.Need-returns-3
-returns-3 c = above _ _ _ _ (good _ _ (c .before .before .before .before .refusal .ensures) (c .before .before .before .if1 .left)) (sym (c .before .if2 .left) ∙ c .before .before .event-refusal .ensures) (c .if3 .taken)
-
-returns-4 : tie.Need-returns-4
-returns-4 c = below _ _ _ _ (good _ _ (c .before .before .before .before .before .refusal .ensures) (c .before .before .before .before .if1 .left)) (sym (c .before .before .if2 .left) ∙ c .before .before .before .event-refusal .ensures) (c .before .if3 .left) (c .if4 .taken)
-
-returns-5 : tie.Need-returns-5
-returns-5 c = none _ _ _ _ (good _ _ (c .before .before .before .before .before .refusal .ensures) (c .before .before .before .before .if1 .left)) (sym (c .before .before .if2 .left) ∙ c .before .before .before .event-refusal .ensures) (c .before .if3 .left) (c .if4 .left)
+returns-3 c = unnamed _ _ _ _ (good _ _ (c .before .before .before .before .refusal .ensures) (c .before .before .before .if1 .left)) _ (c .before .before .event-refusal .ensures) (c .before .if2 .left) _ (c .refusal2 .ensures)
 
 pub refusal-spec : {M : Type 1} → statement M
 refusal-spec =
     tie.close
-    (tie.spec
-    refusal-requires
-    returns
-    event-refusal-requires
-    returns-2
-    returns-3
-    returns-4
-    returns-5)
+    (tie.spec refusal-requires returns event-refusal-requires returns-2 refusal-requires-2 returns-3)

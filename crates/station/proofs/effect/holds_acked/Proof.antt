@@ -1,8 +1,8 @@
 -- `holds_acked` sets the mode that is granted.
 use mathlib.Core.Path.{sym, ap, _∙_}
 use Rattle.station.specs.Effect.{holdsAcked}
-use Rattle.station.proofs.Choice.{stored}
-use Rattle.station.specs.Hold.{withMode}
+use Rattle.room.proofs.Choice.{stored}
+use Rattle.room.specs.Hold.{withMode}
 use borrow.Author.Needs.{needs}
 use Rattle.station.proofs.effect.holds_acked.Statement.{statement}
 use Rattle.station.proofs.effect.holds_acked.Tie as tie

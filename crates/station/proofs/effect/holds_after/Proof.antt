@@ -1,11 +1,11 @@
 -- `holds_after` changes the hold that the event names.
 use Rattle.station.proofs.Ways.{room-up, room-down}
-use Rattle.station.proofs.Choice.{stored}
+use Rattle.room.proofs.Choice.{stored}
 use native.Mathlib.Omega.{arith}
 use mathlib.Core.Path.{sym, ap, _∙_}
 use Rattle.station.specs.Effect.{holdsAfter}
 use mathlib.Core.Bool.{true, false}
-use Rattle.station.specs.Hold.{withUnwritten}
+use Rattle.room.specs.Hold.{withUnwritten}
 use Rattle.station.specs.Effect.{begun, ended}
 use borrow.Author.Needs.{needs}
 use Rattle.station.proofs.effect.holds_after.Statement.{statement}

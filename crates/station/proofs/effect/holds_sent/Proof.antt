@@ -1,8 +1,8 @@
 -- `holds_sent` drops the mode of a profile that is released.
 use mathlib.Core.Path.{sym, ap, _∙_}
 use Rattle.station.specs.Effect.{holdsSent}
-use Rattle.station.proofs.Choice.{stored}
-use Rattle.station.specs.Hold.{withMode}
+use Rattle.room.proofs.Choice.{stored}
+use Rattle.room.specs.Hold.{withMode}
 use borrow.Author.Needs.{needs}
 use Rattle.station.proofs.effect.holds_sent.Statement.{statement}
 use Rattle.station.proofs.effect.holds_sent.Tie as tie

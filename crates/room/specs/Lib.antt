@@ -1,0 +1,5 @@
+pub mod Event
+pub mod Hold
+pub mod Stage
+pub mod Refusal
+pub mod Rules
