@@ -1,7 +1,7 @@
 -- The step put together: what the code puts back is what the rules say.
 -- Assumes nothing.
 use mathlib.Core.Path.{_≡_, refl, sym, ap, _∙_, fun-ext}
-use mathlib.Core.Bool.{Bool, true, false}
+use mathlib.Core.Bool.{Bool, true, false, cond}
 use mathlib.Core.List.{List, [], _∷_, map}
 use Prim.Native.Nat.{ℕ, zero, suc}
 use lib.Bits.{bitAnd}
@@ -33,21 +33,19 @@ pub none-wiped : (xs : List Profile) → xs ≡ map (wipedUnder 0) xs
 none-wiped [] = refl
 none-wiped (x ∷ xs) = λ i. sym (nobody-wiped x) i ∷ none-wiped xs i
 
+-- all profiles wiped of who is gone
+gone-wiped : (b : Bool) (i m : ℕ) → m ≡ mask (cond b (only i) []) → (xs : List Profile) → map (wipedUnder m) xs ≡ wipedIf b i xs
+gone-wiped true i m e xs = wiped-all (only i) m e xs
+gone-wiped false i m e xs = ap (λ (n : ℕ). map (wipedUnder n) xs) e ∙ sym (none-wiped xs)
+
 module _ (s : Server) (now i number : ℕ) (q : Request) (p : ℕ) (at : p ≡ profileOf q) (h : Heard) (heard : h ≡ hear (liveSet (s .members)) now i number q (memberAt s i) (getD (s .profiles) p noProfile)) where
-  pub put-back : (profiles : List Profile) → profiles ≡ wipedIf (h .greeted) i (set (s .profiles) p (h .profile))
+  pub put-back : (m : ℕ) → m ≡ mask (cond (h .greeted) (only i) []) → (profiles : List Profile) → profiles ≡ map (wipedUnder m) (set (s .profiles) p (h .profile))
       → record { server = record { settings = s .settings; reading = now; members = set (s .members) i (h .member); profiles = profiles }; answer = h .answer } ≡ message s now i number q
   unfolding message
-  put-back profiles e =
-      ap (λ (xs : List Profile). record { server = record { settings = s .settings; reading = now; members = set (s .members) i (h .member); profiles = xs }; answer = h .answer }) e
+  put-back m g profiles e =
+      ap (λ (xs : List Profile). record { server = record { settings = s .settings; reading = now; members = set (s .members) i (h .member); profiles = xs }; answer = h .answer }) (e ∙ gone-wiped (h .greeted) i m g (set (s .profiles) p (h .profile)))
       ∙ ap (afterHeard s now i p) heard
       ∙ ap (λ (k : ℕ). afterHeard s now i k (hear (liveSet (s .members)) now i number q (memberAt s i) (getD (s .profiles) k noProfile))) at
-
-  pub greeted-all : h .greeted ≡ true → (m : ℕ) → m ≡ mask (only i) → (profiles : List Profile) → profiles ≡ map (wipedUnder m) (set (s .profiles) p (h .profile)) → profiles ≡ wipedIf (h .greeted) i (set (s .profiles) p (h .profile))
-  greeted-all g m e profiles q =
-      q ∙ wiped-all (only i) m e (set (s .profiles) p (h .profile)) ∙ sym (ap (λ (b : Bool). wipedIf b i (set (s .profiles) p (h .profile))) g)
-
-  pub greeted-not : h .greeted ≡ false → set (s .profiles) p (h .profile) ≡ wipedIf (h .greeted) i (set (s .profiles) p (h .profile))
-  greeted-not g = sym (ap (λ (b : Bool). wipedIf b i (set (s .profiles) p (h .profile))) g)
 
 module _ (s : Server) (wait now : ℕ) (m : ℕ) (is-freed : m ≡ mask (freedSet wait now s)) (members : List Member) (turned-members : members ≡ changeUnder (restatus Unknown) m (s .members)) (profiles : List Profile) (wiped-profiles : profiles ≡ map (wipedUnder m) (s .profiles)) where
   freed-members : members ≡ turned Unknown (freedSet wait now s) (s .members)

@@ -34,30 +34,24 @@ pub fn ask(
     let wanted = row::held(modes, me).join(asked);
     let conflicts = row::conflicts(modes, me, wanted);
     if conflicts == 0 {
+        let row = row::with_mode(modes, me, wanted);
         return Ruled {
-            profile: Profile {
-                row: row::with_mode(modes, me, wanted),
-                marks,
-            },
+            profile: Profile { row, marks },
             answer: Answer::Granted(number, wanted),
         };
     }
     let kept = mark::marks_in(marks, Which::Kept);
     if conflicts & kept != 0 {
+        let marks = mark::change_in(marks, EVERYONE, Change::DropKept);
         return Ruled {
-            profile: Profile {
-                row: modes,
-                marks: mark::change_in(marks, EVERYONE, Change::DropKept),
-            },
+            profile: Profile { row: modes, marks },
             answer: Answer::InUse(number),
         };
     }
     let demanded = conflicts & member::members_in(members, member::Which::Live);
+    let marks = mark::change_in(marks, demanded, Change::Demand(now));
     Ruled {
-        profile: Profile {
-            row: modes,
-            marks: mark::change_in(marks, demanded, Change::Demand(now)),
-        },
+        profile: Profile { row: modes, marks },
         answer: Answer::Wait(number, wanted, demanded, masks::count(demanded)),
     }
 }

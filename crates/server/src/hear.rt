@@ -8,6 +8,8 @@ use crate::member::Status;
 use crate::profile::Profile;
 use timing::settings::Settings;
 ghost use mathlib.Core.Path.{_≡_};
+ghost use mathlib.Core.Bool.{cond};
+ghost use mathlib.Core.List.{[]};
 ghost use Rattle.masks.specs.Mask.{mask};
 ghost use Rattle.server.specs.Sets.{liveSet, only};
 ghost use Rattle.server.specs.Hear.{answered, greeted, heed, welcome, hear};
@@ -71,13 +73,20 @@ fn heed(
 }
 
 // The set of one station.
-pub fn only(station: usize) -> u64
+fn only(station: usize) -> u64
     ensures { λ r. ⌜ r ≡ mask (only station) ⌝ }
 {
     if station < Settings::STATIONS {
         return 1 << station;
     }
     0
+}
+
+// The set whose modes and marks go on every profile: a station that is greeted, or nobody.
+pub fn gone(greeted: bool, station: usize) -> u64
+    ensures { λ r. ⌜ r ≡ mask (cond greeted (only station) []) ⌝ }
+{
+    if greeted { only(station) } else { 0 }
 }
 
 // A station that is unknown is heard only with a hello.

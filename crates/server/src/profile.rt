@@ -59,7 +59,7 @@ impl Profile {
 pub fn wipe_all(profiles: [Profile; Settings::PROFILES], set: u64) -> [Profile; Settings::PROFILES]
     ensures { λ r. ⌜ r ≡ map (wipedUnder set) profiles ⌝ }
 {
-    // Most ticks free nobody.
+    // Most events wipe nobody.
     if set == 0 {
         return profiles;
     }

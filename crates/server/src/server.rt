@@ -125,11 +125,10 @@ impl Server {
         self.reading = reading;
         self.members[i] = next_member;
         self.profiles[at] = next_profile;
-        if greeted {
-            let profiles = self.profiles;
-            let left = profile::wipe_all(profiles, hear::only(i));
-            self.profiles = left;
-        }
+        // No branch for a hello alone: it would cost two more copies of the profiles.
+        let profiles = self.profiles;
+        let left = profile::wipe_all(profiles, hear::gone(greeted, i));
+        self.profiles = left;
         Served {
             server: self,
             answer,

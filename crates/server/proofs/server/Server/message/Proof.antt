@@ -1,5 +1,5 @@
 -- `message` hears a station's message and puts back what it changed.
-use Rattle.server.proofs.Stepping.{put-back, greeted-all, greeted-not}
+use Rattle.server.proofs.Stepping.{put-back}
 use borrow.Author.Needs.{needs}
 use Rattle.server.proofs.server.Server.message.Statement.{statement}
 use Rattle.server.proofs.server.Server.message.Tie as tie
@@ -37,23 +37,16 @@ mul-next-profile c = search needs
 element-set-from-next-profile : tie.Need-element-set-from-next-profile
 element-set-from-next-profile c = search needs
 
-only-requires : tie.Need-only-requires
-only-requires c κs = search needs
+gone-requires : tie.Need-gone-requires
+gone-requires c κs = search needs
 
 wipe-all-requires : tie.Need-wipe-all-requires
 wipe-all-requires c κs = search needs
 
 returns : tie.Need-returns
 returns c =
-    let a = c .before .before .before .before .before .before .before .before .before .before .before .args in
-    let h = c .before .before .before .before .before .before .hear in
-    put-back (a .t1) (a .reading) (a .station) (a .number) (a .request) _ (c .before .before .before .before .before .before .before .before .before .before .profile-of .ensures) _ (h .ensures) _ (greeted-all (a .t1) (a .reading) (a .station) (a .number) (a .request) _ (c .before .before .before .before .before .before .before .before .before .before .profile-of .ensures) _ (h .ensures) (c .before .before .before .if1 .taken) _ (c .before .only .ensures) _ (c .wipe-all .ensures))
-
-returns-2 : tie.Need-returns-2
-returns-2 c =
-    let a = c .before .before .before .before .before .before .before .before .args in
-    let h = c .before .before .before .hear in
-    put-back (a .t1) (a .reading) (a .station) (a .number) (a .request) _ (c .before .before .before .before .before .before .before .profile-of .ensures) _ (h .ensures) _ (greeted-not (a .t1) (a .reading) (a .station) (a .number) (a .request) _ (c .before .before .before .before .before .before .before .profile-of .ensures) _ (h .ensures) (c .if1 .left))
+    let a = c .before .before .before .before .before .before .before .before .before .before .args in
+    put-back (a .t1) (a .reading) (a .station) (a .number) (a .request) _ (c .before .before .before .before .before .before .before .before .before .profile-of .ensures) _ (c .before .before .before .before .before .hear .ensures) _ (c .before .gone .ensures) _ (c .wipe-all .ensures)
 
 pub message-spec : {M : Type 1} → statement M
 message-spec =
@@ -70,7 +63,6 @@ message-spec =
     element-set-from-next-member
     mul-next-profile
     element-set-from-next-profile
-    only-requires
+    gone-requires
     wipe-all-requires
-    returns
-    returns-2)
+    returns)
