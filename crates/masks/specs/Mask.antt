@@ -56,3 +56,7 @@ module _ {A : Type 0} where
   abbrev pub changeUnder : (A → A) → ℕ → List A → List A
   changeUnder f w [] = []
   changeUnder f w (x ∷ xs) = cond (eqb (w % 2) 1) (f x) x ∷ changeUnder f (w / 2) xs
+
+  -- one element, by the lowest bit
+  abbrev pub lowest : (A → A) → ℕ → A → A
+  lowest f w x = cond (eqb (w % 2) 1) (f x) x

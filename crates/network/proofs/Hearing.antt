@@ -19,9 +19,9 @@ use Rattle.modes.proofs.Laws.{symmetric, none-goes, covers-none, covers-trans, 
 use Rattle.timing.specs.declared.settings.Settings.{Settings}
 use Rattle.timing.specs.Settings.{lease, inRange}
 use Rattle.timing.proofs.Ranges.{ranges}
-use Rattle.server.specs.declared.member.Status.{Status}
-use Rattle.server.specs.declared.member.Status.the-variants.{Unknown, Live, TimingOut}
-use Rattle.server.specs.declared.member.Member.{Member}
+use Rattle.members.specs.declared.member.Status.{Status}
+use Rattle.members.specs.declared.member.Status.the-variants.{Unknown, Live, TimingOut}
+use Rattle.members.specs.declared.member.Member.{Member}
 use Rattle.server.specs.declared.profile.Profile.{Profile}
 use Rattle.server.specs.declared.server.Served.{Served}
 use Rattle.requests.specs.declared.Request.{Request}

@@ -19,10 +19,10 @@ use Rattle.timing.proofs.Ranges.{Ranges, ranges}
 use Rattle.timing.proofs.Wait.{wait-sharp, wait-above-lease, wait-small}
 use Rattle.server.specs.declared.server.Server.{Server}
 use Rattle.server.specs.declared.server.Served.{Served}
-use Rattle.server.specs.declared.member.Status.{Status}
-use Rattle.server.specs.declared.member.Status.the-variants.{Unknown, Live, TimingOut}
-use Rattle.server.specs.declared.mark.Mark.{Mark}
-use Rattle.server.specs.declared.mark.Mark.the-variants.{Unmarked, Demanded}
+use Rattle.members.specs.declared.member.Status.{Status}
+use Rattle.members.specs.declared.member.Status.the-variants.{Unknown, Live, TimingOut}
+use Rattle.members.specs.declared.mark.Mark.{Mark}
+use Rattle.members.specs.declared.mark.Mark.the-variants.{Unmarked, Demanded}
 use Rattle.server.specs.declared.event.Event.the-variants as server
 use Rattle.server.specs.declared.event.Answer.{Answer as ServerAnswer}
 use Rattle.server.specs.declared.event.Answer.the-variants as says

@@ -9,8 +9,8 @@ use native.Mathlib.Omega.{arith}
 use Rattle.record.specs.declared.message.Message.{Message}
 use Rattle.modes.specs.Modes.{covers}
 use Rattle.modes.proofs.Laws.{covers-none}
-use Rattle.server.specs.declared.member.Status.{Status}
-use Rattle.server.specs.declared.member.Status.the-variants.{Unknown, Live, TimingOut}
+use Rattle.members.specs.declared.member.Status.{Status}
+use Rattle.members.specs.declared.member.Status.the-variants.{Unknown, Live, TimingOut}
 use Rattle.requests.specs.declared.Request.{Request}
 use Rattle.room.specs.declared.event.Waiting.{Waiting}
 use Rattle.room.specs.declared.event.Waiting.the-variants.{Nothing, Sent}

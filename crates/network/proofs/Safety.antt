@@ -17,7 +17,7 @@ use Rattle.timing.specs.declared.settings.Settings.{Settings}
 use Rattle.timing.specs.Settings.{lease, inRange, Rate}
 use Rattle.timing.proofs.Ranges.{ranges}
 use Rattle.timing.proofs.Wait.{rate-sum, wait-enough, wait-sharp}
-use Rattle.server.specs.declared.member.Status.the-variants.{Unknown}
+use Rattle.members.specs.declared.member.Status.the-variants.{Unknown}
 use Rattle.server.specs.State.{newServer, nobody, noProfile, emptyProfile, statusOf}
 use Rattle.server.proofs.Frames.{entry}
 use Rattle.station.specs.declared.station.Station.{Station}

@@ -16,8 +16,8 @@ use Rattle.modes.specs.Modes.{goesWith}
 use Rattle.modes.proofs.Laws.{symmetric, none-goes}
 use Rattle.timing.specs.declared.settings.Settings.{Settings}
 use Rattle.timing.specs.Settings.{lease}
-use Rattle.server.specs.declared.member.Status.the-variants.{Live}
-use Rattle.server.specs.declared.member.Member.{Member}
+use Rattle.members.specs.declared.member.Status.the-variants.{Live}
+use Rattle.members.specs.declared.member.Member.{Member}
 use Rattle.server.specs.declared.profile.Profile.{Profile}
 use Rattle.server.specs.declared.server.Server.{Server}
 use Rattle.server.specs.State.{nobody, statusOf, lastOf, modeOf as modeAt}

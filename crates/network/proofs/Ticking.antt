@@ -12,8 +12,8 @@ use borrow.Author.Tests.{leb-true}
 use Rattle.timing.specs.declared.settings.Settings.{Settings}
 use Rattle.timing.specs.Settings.{lease, inRange}
 use Rattle.timing.proofs.Ranges.{ranges}
-use Rattle.server.specs.declared.member.Status.{Status}
-use Rattle.server.specs.declared.member.Status.the-variants.{Unknown, Live, TimingOut}
+use Rattle.members.specs.declared.member.Status.{Status}
+use Rattle.members.specs.declared.member.Status.the-variants.{Unknown, Live, TimingOut}
 use Rattle.server.specs.declared.server.Server.{Server}
 use Rattle.server.specs.declared.event.Event.the-variants.{Tick}
 use Rattle.server.specs.State.{statusOf}

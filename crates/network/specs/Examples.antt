@@ -8,7 +8,7 @@ use Rattle.modes.specs.Modes.{mode, R, X}
 use Rattle.record.specs.declared.message.Message.{Message}
 use Rattle.timing.specs.declared.settings.Settings.{Settings}
 use Rattle.timing.specs.Settings.{settings, wait}
-use Rattle.server.specs.declared.member.Status.the-variants.{Unknown, TimingOut}
+use Rattle.members.specs.declared.member.Status.the-variants.{Unknown, TimingOut}
 use Rattle.server.specs.State.{statusOf, modeOf as grantedTo}
 use Rattle.room.specs.declared.stage.Standing.the-variants.{Out, Closing}
 use Rattle.requests.specs.declared.Request.the-variants.{Hello, KeepAlive, Ask, Release}

@@ -5,22 +5,16 @@ use lib.ListN.{getD, replicate}
 use Rattle.modes.specs.Modes.{mode}
 use Rattle.timing.specs.Limits.{mostStations, mostProfiles}
 use Rattle.timing.specs.declared.settings.Settings.{Settings}
-pub use Rattle.server.specs.declared.member.Status.{Status}
-pub use Rattle.server.specs.declared.member.Status.the-variants.{Unknown, Live, TimingOut}
-pub use Rattle.server.specs.declared.member.Member.{Member}
-pub use Rattle.server.specs.declared.mark.Mark.{Mark}
-pub use Rattle.server.specs.declared.mark.Mark.the-variants.{Unmarked, Demanded, Kept}
-pub use Rattle.server.specs.declared.mark.Marked.{Marked}
+pub use Rattle.members.specs.declared.member.Status.{Status}
+pub use Rattle.members.specs.declared.member.Status.the-variants.{Unknown, Live, TimingOut}
+pub use Rattle.members.specs.declared.member.Member.{Member}
+pub use Rattle.members.specs.declared.mark.Mark.{Mark}
+pub use Rattle.members.specs.declared.mark.Mark.the-variants.{Unmarked, Demanded, Kept}
+pub use Rattle.members.specs.declared.mark.Marked.{Marked}
+pub use Rattle.members.specs.Member.{nobody}
+pub use Rattle.members.specs.Mark.{noMark}
 pub use Rattle.server.specs.declared.profile.Profile.{Profile}
 pub use Rattle.server.specs.declared.server.Server.{Server}
-
--- "A station is unknown (at the start)"; "last numbers and readings start at 0"
-abbrev pub nobody : Member
-nobody = record { status = Unknown; last = 0 }
-
--- "a mark: none"
-abbrev pub noMark : Marked
-noMark = record { mark = Unmarked }
 
 abbrev pub emptyProfile : Profile
 emptyProfile = record { row = replicate mostStations (mode 0); marks = replicate mostStations noMark }

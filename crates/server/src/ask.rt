@@ -1,13 +1,13 @@
 // The ask rule, on one profile.
 use crate::event::Answer;
-use crate::mark;
-use crate::mark::Change;
-use crate::mark::EVERYONE;
-use crate::mark::Which;
-use crate::member;
-use crate::member::Members;
 use crate::profile::Profile;
 use crate::row;
+use members::mark;
+use members::mark::Change;
+use members::mark::EVERYONE;
+use members::mark::Which;
+use members::member;
+use members::member::Members;
 use modes::Mode;
 ghost use mathlib.Core.Path.{_≡_};
 ghost use Rattle.server.specs.Sets.{liveSet};

@@ -2,10 +2,10 @@
 use crate::ask;
 use crate::event::Answer;
 use crate::event::Request;
-use crate::member::Member;
-use crate::member::Members;
-use crate::member::Status;
 use crate::profile::Profile;
+use members::member::Member;
+use members::member::Members;
+use members::member::Status;
 use timing::settings::Settings;
 ghost use mathlib.Core.Path.{_≡_};
 ghost use mathlib.Core.Bool.{cond};

@@ -3,8 +3,6 @@ mod ask;
 pub mod border;
 pub mod event;
 mod hear;
-mod mark;
-mod member;
 mod profile;
 mod row;
 pub mod server;

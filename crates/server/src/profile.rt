@@ -1,10 +1,10 @@
 // One profile at the server: its row of modes and its marks, in station order.
-use crate::mark;
-use crate::mark::Change;
-use crate::mark::Mark;
-use crate::mark::Marked;
-use crate::mark::Which;
 use crate::row;
+use members::mark;
+use members::mark::Change;
+use members::mark::Mark;
+use members::mark::Marked;
+use members::mark::Which;
 use modes::Mode;
 use timing::settings::Settings;
 ghost use mathlib.Core.Path.{_≡_};

@@ -6,7 +6,7 @@ ghost use lib.ListN.{getD, set};
 ghost use Rattle.masks.specs.Mask.{mask, changeUnder};
 ghost use Rattle.modes.specs.Modes.{mode};
 ghost use Rattle.server.specs.Sets.{clashes, conflicts, noMode};
-ghost use Rattle.server.specs.Under.{lowest};
+ghost use Rattle.masks.specs.Mask.{lowest};
 
 // Whether station `j`, which holds `held`, is another than `me` and stands in the way of `wanted`.
 fn clash(me: usize, wanted: Mode, j: usize, held: Mode) -> bool

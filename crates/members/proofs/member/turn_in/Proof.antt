@@ -6,11 +6,11 @@ use lib.ListN.{length, take, drop, length-set}
 use native.Mathlib.Omega.{arith}
 use Rattle.masks.specs.Mask.{changeUnder}
 use Rattle.masks.proofs.Walk.{under-turn, under-end}
-use Rattle.server.specs.State.{nobody}
-use Rattle.server.specs.Sets.{restatus}
+use Rattle.members.specs.Member.{nobody}
+use Rattle.members.specs.Member.{restatus}
 use borrow.Author.Needs.{needs}
-use Rattle.server.proofs.member.turn_in.Statement.{statement}
-use Rattle.server.proofs.member.turn_in.Tie as tie
+use Rattle.members.proofs.member.turn_in.Statement.{statement}
+use Rattle.members.proofs.member.turn_in.Tie as tie
 
 abbrev Inv-loop : tie.InvT-loop
 Inv-loop set status next₀ w₀ i₀ next w i =

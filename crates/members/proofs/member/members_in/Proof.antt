@@ -7,10 +7,10 @@ use borrow.Author.Needs.{needs}
 use Rattle.masks.specs.Mask
 use Rattle.masks.specs.Mask.{those, bitOf}
 use Rattle.masks.proofs.Laws.{turn, room, none, bit-small}
-use Rattle.server.specs.State.{Member, nobody}
-use Rattle.server.specs.Under.{statusTest}
-use Rattle.server.proofs.member.members_in.Statement.{statement}
-use Rattle.server.proofs.member.members_in.Tie as tie
+use Rattle.members.specs.Member.{Member, nobody}
+use Rattle.members.specs.Member.{statusTest}
+use Rattle.members.proofs.member.members_in.Statement.{statement}
+use Rattle.members.proofs.member.members_in.Tie as tie
 
 abbrev Inv-loop : tie.InvT-loop
 Inv-loop which members mask₀ i₀ mask i =

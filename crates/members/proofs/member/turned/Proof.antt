@@ -1,7 +1,7 @@
 -- `turned` gives a station a new status under the lowest bit.
 use borrow.Author.Tests.{eq-eqb, ne-eqb}
-use Rattle.server.proofs.member.turned.Statement.{statement}
-use Rattle.server.proofs.member.turned.Tie as tie
+use Rattle.members.proofs.member.turned.Statement.{statement}
+use Rattle.members.proofs.member.turned.Tie as tie
 
 returns : tie.Need-returns
 returns c = simp (eq-eqb _ _ (c .if1 .taken))

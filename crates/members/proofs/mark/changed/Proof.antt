@@ -1,7 +1,7 @@
 -- `changed` does to a mark what the change says.
 use borrow.Author.Needs.{needs}
-use Rattle.server.proofs.mark.changed.Statement.{statement}
-use Rattle.server.proofs.mark.changed.Tie as tie
+use Rattle.members.proofs.mark.changed.Statement.{statement}
+use Rattle.members.proofs.mark.changed.Tie as tie
 
 enum-told : tie.Need-enum-told
 enum-told c = search needs

@@ -1,8 +1,8 @@
 -- `is_one` tells whether a station is one of those asked for.
 use mathlib.Core.Path.{_∙_}
 use borrow.Author.Needs.{needs}
-use Rattle.server.proofs.member.is_one.Statement.{statement}
-use Rattle.server.proofs.member.is_one.Tie as tie
+use Rattle.members.proofs.member.is_one.Statement.{statement}
+use Rattle.members.proofs.member.is_one.Tie as tie
 
 enum-told : tie.Need-enum-told
 enum-told c = search needs

@@ -1,10 +1,10 @@
 -- `changed_if` changes a mark under the lowest bit.
 use mathlib.Core.Path.{ap, _∙_}
 use borrow.Author.Tests.{eq-eqb, ne-eqb}
-use Rattle.server.specs.State.{Mark}
+use Rattle.members.specs.Mark.{Mark}
 use borrow.Author.Needs.{needs}
-use Rattle.server.proofs.mark.changed_if.Statement.{statement}
-use Rattle.server.proofs.mark.changed_if.Tie as tie
+use Rattle.members.proofs.mark.changed_if.Statement.{statement}
+use Rattle.members.proofs.mark.changed_if.Tie as tie
 
 changed-requires : tie.Need-changed-requires
 changed-requires c κs = search needs

@@ -3,8 +3,9 @@ use timing::reading::Reading;
 use timing::settings::Settings;
 ghost use mathlib.Core.Path.{_≡_};
 ghost use Rattle.masks.specs.Mask.{mask, changeUnder};
-ghost use Rattle.server.specs.Sets.{membersWith, restatus};
-ghost use Rattle.server.specs.Under.{statusTest, lowest};
+ghost use Rattle.members.specs.Member.{membersWith, restatus};
+ghost use Rattle.members.specs.Member.{statusTest};
+ghost use Rattle.masks.specs.Mask.{lowest};
 
 pub enum Status {
     Unknown,

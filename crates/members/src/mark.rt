@@ -3,8 +3,9 @@ use timing::reading::Reading;
 use timing::settings::Settings;
 ghost use mathlib.Core.Path.{_≡_};
 ghost use Rattle.masks.specs.Mask.{mask, changeUnder};
-ghost use Rattle.server.specs.Sets.{marksWith, remark};
-ghost use Rattle.server.specs.Under.{markTest, markChange, lowest};
+ghost use Rattle.members.specs.Mark.{marksWith, remark};
+ghost use Rattle.members.specs.Mark.{markTest, markChange};
+ghost use Rattle.masks.specs.Mask.{lowest};
 
 pub enum Mark {
     Unmarked,

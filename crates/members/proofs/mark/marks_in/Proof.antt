@@ -7,10 +7,10 @@ use borrow.Author.Needs.{needs}
 use Rattle.masks.specs.Mask
 use Rattle.masks.specs.Mask.{those, bitOf}
 use Rattle.masks.proofs.Laws.{turn, room, none, bit-small}
-use Rattle.server.specs.State.{Marked, noMark}
-use Rattle.server.specs.Under.{markTest}
-use Rattle.server.proofs.mark.marks_in.Statement.{statement}
-use Rattle.server.proofs.mark.marks_in.Tie as tie
+use Rattle.members.specs.Mark.{Marked, noMark}
+use Rattle.members.specs.Mark.{markTest}
+use Rattle.members.proofs.mark.marks_in.Statement.{statement}
+use Rattle.members.proofs.mark.marks_in.Tie as tie
 
 abbrev Inv-loop : tie.InvT-loop
 Inv-loop which marks mask₀ i₀ mask i =

@@ -6,12 +6,12 @@ use lib.ListN.{length, take, drop, length-set}
 use native.Mathlib.Omega.{arith}
 use Rattle.masks.specs.Mask.{changeUnder}
 use Rattle.masks.proofs.Walk.{under-turn, under-end}
-use Rattle.server.specs.State.{noMark}
-use Rattle.server.specs.Sets.{remark}
-use Rattle.server.specs.Under.{markChange}
+use Rattle.members.specs.Mark.{noMark}
+use Rattle.members.specs.Mark.{remark}
+use Rattle.members.specs.Mark.{markChange}
 use borrow.Author.Needs.{needs}
-use Rattle.server.proofs.mark.change_in.Statement.{statement}
-use Rattle.server.proofs.mark.change_in.Tie as tie
+use Rattle.members.proofs.mark.change_in.Statement.{statement}
+use Rattle.members.proofs.mark.change_in.Tie as tie
 
 abbrev Inv-loop : tie.InvT-loop
 Inv-loop set change next₀ w₀ i₀ next w i =
