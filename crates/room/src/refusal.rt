@@ -56,15 +56,10 @@ fn station_of(number: u8, event: Event) -> u8
     ensures { λ r. ⌜ r ≡ stationOf number event ⌝ }
 {
     match event {
-        Event::Send(_) => number,
-        Event::Begin(_, _) => number,
-        Event::Edit(_) => number,
-        Event::End(_) => number,
-        Event::WriteOut(_) => number,
-        Event::Restart => number,
         Event::Ack(station, _, _) => station,
         Event::Nack(station, _, _) => station,
         Event::Demand(station, _, _) => station,
+        _ => number,
     }
 }
 

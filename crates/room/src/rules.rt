@@ -136,9 +136,7 @@ fn is_done(ack: Ack) -> bool
 {
     match ack {
         Ack::Done => true,
-        Ack::Granted(_, _) => false,
-        Ack::Wait(_) => false,
-        Ack::InUse(_) => false,
+        _ => false,
     }
 }
 
@@ -166,11 +164,8 @@ fn fits(request: Request, held: Mode, ack: Ack) -> bool
     ensures { λ r. ⌜ r ≡ fits request (held .0) ack ⌝ }
 {
     match request {
-        Request::Hello => is_done(ack),
-        Request::KeepAlive => is_done(ack),
         Request::Ask(profile, asked) => fits_ask(profile, asked, held, ack),
-        Request::Release(_) => is_done(ack),
-        Request::Keep(_) => is_done(ack),
+        _ => is_done(ack),
     }
 }
 

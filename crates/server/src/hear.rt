@@ -95,10 +95,7 @@ fn welcome(member: Member, profile: Profile, request: Request) -> Heard
 {
     match request {
         Request::Hello => greeted(member, profile),
-        Request::KeepAlive => answered(member, profile, Answer::Nack(1)),
-        Request::Ask(_, _) => answered(member, profile, Answer::Nack(1)),
-        Request::Release(_) => answered(member, profile, Answer::Nack(1)),
-        Request::Keep(_) => answered(member, profile, Answer::Nack(1)),
+        _ => answered(member, profile, Answer::Nack(1)),
     }
 }
 

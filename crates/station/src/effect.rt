@@ -18,15 +18,10 @@ pub fn standing_after(standing: Standing, event: Event) -> Standing
     ensures { λ r. ⌜ r ≡ standingAfter standing event ⌝ }
 {
     match event {
-        Event::Send(_) => standing,
-        Event::Begin(_, _) => standing,
-        Event::Edit(_) => standing,
-        Event::End(_) => standing,
-        Event::WriteOut(_) => standing,
         Event::Restart => Standing::Out,
         Event::Ack(_, _, _) => Standing::Open,
         Event::Nack(_, _, _) => nacked(standing),
-        Event::Demand(_, _, _) => standing,
+        _ => standing,
     }
 }
 
@@ -55,15 +50,9 @@ pub fn start_after(start: u64, sent: u64, event: Event) -> u64
     ensures { λ r. ⌜ r ≡ startAfter start sent event ⌝ }
 {
     match event {
-        Event::Send(_) => start,
-        Event::Begin(_, _) => start,
-        Event::Edit(_) => start,
-        Event::End(_) => start,
-        Event::WriteOut(_) => start,
         Event::Restart => 0,
         Event::Ack(_, _, _) => sent,
-        Event::Nack(_, _, _) => start,
-        Event::Demand(_, _, _) => start,
+        _ => start,
     }
 }
 
@@ -73,14 +62,7 @@ pub fn last_after(last: u32, event: Event) -> u32
 {
     match event {
         Event::Send(_) => last + 1,
-        Event::Begin(_, _) => last,
-        Event::Edit(_) => last,
-        Event::End(_) => last,
-        Event::WriteOut(_) => last,
-        Event::Restart => last,
-        Event::Ack(_, _, _) => last,
-        Event::Nack(_, _, _) => last,
-        Event::Demand(_, _, _) => last,
+        _ => last,
     }
 }
 
@@ -89,14 +71,10 @@ pub fn waiting_after(waiting: Waiting, reading: u64, event: Event) -> Waiting
 {
     match event {
         Event::Send(request) => Waiting::Sent(request, reading),
-        Event::Begin(_, _) => waiting,
-        Event::Edit(_) => waiting,
-        Event::End(_) => waiting,
-        Event::WriteOut(_) => waiting,
         Event::Restart => Waiting::Nothing,
         Event::Ack(_, _, _) => Waiting::Nothing,
         Event::Nack(_, _, _) => Waiting::Nothing,
-        Event::Demand(_, _, _) => waiting,
+        _ => waiting,
     }
 }
 
@@ -105,14 +83,11 @@ fn holds_sent(holds: [Hold; Settings::PROFILES], request: Request) -> [Hold; Set
     ensures { λ r. ⌜ r ≡ holdsSent holds request ⌝ }
 {
     match request {
-        Request::Hello => holds,
-        Request::KeepAlive => holds,
-        Request::Ask(_, _) => holds,
         Request::Release(profile) => {
             let held = hold::hold_at(holds, profile);
             hold::with_hold(holds, profile, held.with_mode(Mode::NONE))
         }
-        Request::Keep(_) => holds,
+        _ => holds,
     }
 }
 
@@ -121,13 +96,11 @@ fn holds_acked(holds: [Hold; Settings::PROFILES], ack: Ack) -> [Hold; Settings::
     ensures { λ r. ⌜ r ≡ holdsAcked holds ack ⌝ }
 {
     match ack {
-        Ack::Done => holds,
         Ack::Granted(profile, mode) => {
             let held = hold::hold_at(holds, profile);
             hold::with_hold(holds, profile, held.with_mode(mode))
         }
-        Ack::Wait(_) => holds,
-        Ack::InUse(_) => holds,
+        _ => holds,
     }
 }
 
@@ -179,16 +152,10 @@ pub fn answer_to(number: u32, holds: [Hold; Settings::PROFILES], event: Event) -
 {
     match event {
         Event::Send(request) => Answer::Sent(number, request),
-        Event::Begin(_, _) => Answer::Done,
-        Event::Edit(_) => Answer::Done,
-        Event::End(_) => Answer::Done,
-        Event::WriteOut(_) => Answer::Done,
-        Event::Restart => Answer::Done,
-        Event::Ack(_, _, _) => Answer::Done,
-        Event::Nack(_, _, _) => Answer::Done,
         Event::Demand(_, profile, _) => {
             let advised = advice(hold::hold_at(holds, profile));
             Answer::Advice(advised)
         }
+        _ => Answer::Done,
     }
 }

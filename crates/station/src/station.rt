@@ -55,15 +55,8 @@ fn is_restart(event: Event) -> bool
     ensures { λ r. ⌜ r ≡ isRestart event ⌝ }
 {
     match event {
-        Event::Send(_) => false,
-        Event::Begin(_, _) => false,
-        Event::Edit(_) => false,
-        Event::End(_) => false,
-        Event::WriteOut(_) => false,
         Event::Restart => true,
-        Event::Ack(_, _, _) => false,
-        Event::Nack(_, _, _) => false,
-        Event::Demand(_, _, _) => false,
+        _ => false,
     }
 }
 

@@ -1,14 +1,12 @@
--- `holds_acked` sets the mode that is granted.
+-- `holds_acked` sets the mode of a profile that is granted.
 use mathlib.Core.Path.{sym, ap, _∙_}
-use Rattle.station.specs.Effect.{holdsAcked}
-use Rattle.room.proofs.Choice.{stored}
 use Rattle.room.specs.Hold.{withMode}
+use Rattle.room.proofs.Choice.{stored}
+use Rattle.station.specs.Effect.{holdsAcked}
+use Rattle.station.proofs.Others.{acked-holds}
 use borrow.Author.Needs.{needs}
 use Rattle.station.proofs.effect.holds_acked.Statement.{statement}
 use Rattle.station.proofs.effect.holds_acked.Tie as tie
-
-enum-told : tie.Need-enum-told
-enum-told c = search needs
 
 enum-known-ack : tie.Need-enum-known-ack
 enum-known-ack c = search needs
@@ -22,40 +20,15 @@ with-mode-requires c κs = search needs
 with-hold-requires : tie.Need-with-hold-requires
 with-hold-requires c κs = search needs
 
-enum-told-2 : tie.Need-enum-told-2
-enum-told-2 c = search needs
-
-enum-told-3 : tie.Need-enum-told-3
-enum-told-3 c = search needs
-
 returns : tie.Need-returns
-returns c = search needs
+returns c =
+    let holds = c .before .before .before .before .before .before .args .holds in
+    stored (withMode (c .before .before .before .before .ack .given .0 .1 .0 .0)) holds _ _ _ _ (c .with-hold .ensures)
+    (c .before .with-mode .ensures) (c .before .before .hold-at .ensures)
+    ∙ sym (ap (holdsAcked holds) (c .before .before .before .before .ack .given .1))
 
 returns-2 : tie.Need-returns-2
-returns-2 c =
-    stored (withMode (c .before .before .before .before .ack .given .0 .1 .0 .0))
-    (c .before .before .before .before .before .before .args .holds) _ _ _ _ (c .with-hold .ensures) (c .before .with-mode .ensures)
-    (c .before .before .hold-at .ensures)
-    ∙ sym (ap (holdsAcked (c .before .before .before .before .before .before .args .holds)) (c .before .before .before .before .ack .given .1))
-
-returns-3 : tie.Need-returns-3
-returns-3 c = search needs
-
-returns-4 : tie.Need-returns-4
-returns-4 c = search needs
+returns-2 c = acked-holds _ (c .before .args .ack) (c .match .keys2)
 
 pub holds-acked-spec : {M : Type 1} → statement M
-holds-acked-spec =
-    tie.close
-    (tie.spec
-    enum-told
-    enum-known-ack
-    hold-at-requires
-    with-mode-requires
-    with-hold-requires
-    enum-told-2
-    enum-told-3
-    returns
-    returns-2
-    returns-3
-    returns-4)
+holds-acked-spec = tie.close (tie.spec enum-known-ack hold-at-requires with-mode-requires with-hold-requires returns returns-2)

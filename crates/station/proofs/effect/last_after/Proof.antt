@@ -1,10 +1,10 @@
 -- `last_after` takes the next number for a message, and there is one.
-use Prim.Native.Nat.{_<_}
-use Rattle.station.specs.Effect.{numberFree}
-use Rattle.station.specs.Effect.{lastAfter}
 use mathlib.Core.Path.{sym, ap, _∙_}
-use borrow.Author.Tests.{ltb-true}
+use Prim.Native.Nat.{_<_}
 use native.Mathlib.Omega.{arith}
+use borrow.Author.Tests.{ltb-true}
+use Rattle.station.specs.Effect.{numberFree, lastAfter}
+use Rattle.station.proofs.Others.{last-stays}
 use borrow.Author.Needs.{needs}
 use Rattle.station.proofs.effect.last_after.Statement.{statement}
 use Rattle.station.proofs.effect.last_after.Tie as tie
@@ -17,77 +17,11 @@ add-result c =
     let h : c .before .before .args .last < 4_294_967_295 = ltb-true _ _ (sym (ap (numberFree _) (c .enum-told .given .1)) ∙ c .before .before .pre) in
     omega arith
 
-enum-told-2 : tie.Need-enum-told-2
-enum-told-2 c = search needs
-
-enum-told-3 : tie.Need-enum-told-3
-enum-told-3 c = search needs
-
-enum-told-4 : tie.Need-enum-told-4
-enum-told-4 c = search needs
-
-enum-told-5 : tie.Need-enum-told-5
-enum-told-5 c = search needs
-
-enum-told-6 : tie.Need-enum-told-6
-enum-told-6 c = search needs
-
-enum-told-7 : tie.Need-enum-told-7
-enum-told-7 c = search needs
-
-enum-told-8 : tie.Need-enum-told-8
-enum-told-8 c = search needs
-
-enum-told-9 : tie.Need-enum-told-9
-enum-told-9 c = search needs
-
 returns : tie.Need-returns
 returns c = sym (ap (lastAfter _) (c .enum-told .given .1))
 
 returns-2 : tie.Need-returns-2
-returns-2 c = search needs
-
-returns-3 : tie.Need-returns-3
-returns-3 c = search needs
-
-returns-4 : tie.Need-returns-4
-returns-4 c = search needs
-
-returns-5 : tie.Need-returns-5
-returns-5 c = search needs
-
-returns-6 : tie.Need-returns-6
-returns-6 c = search needs
-
-returns-7 : tie.Need-returns-7
-returns-7 c = search needs
-
-returns-8 : tie.Need-returns-8
-returns-8 c = search needs
-
-returns-9 : tie.Need-returns-9
-returns-9 c = search needs
+returns-2 c = last-stays _ (c .before .args .event) (c .match .keys2)
 
 pub last-after-spec : {M : Type 1} → statement M
-last-after-spec =
-    tie.close
-    (tie.spec
-    enum-told
-    add-result
-    enum-told-2
-    enum-told-3
-    enum-told-4
-    enum-told-5
-    enum-told-6
-    enum-told-7
-    enum-told-8
-    enum-told-9
-    returns
-    returns-2
-    returns-3
-    returns-4
-    returns-5
-    returns-6
-    returns-7
-    returns-8
-    returns-9)
+last-after-spec = tie.close (tie.spec enum-told add-result returns returns-2)

@@ -1,6 +1,7 @@
--- `waiting_after` has the message sent wait, and nothing after its answer.
+-- `waiting_after` puts a message sent in place of any other, and an answer ends the waiting.
 use mathlib.Core.Path.{sym, ap}
 use Rattle.station.specs.Effect.{waitingAfter}
+use Rattle.station.proofs.Others.{waiting-stays}
 use borrow.Author.Needs.{needs}
 use Rattle.station.proofs.effect.waiting_after.Statement.{statement}
 use Rattle.station.proofs.effect.waiting_after.Tie as tie
@@ -17,21 +18,6 @@ enum-told-2 c = search needs
 enum-told-3 : tie.Need-enum-told-3
 enum-told-3 c = search needs
 
-enum-told-4 : tie.Need-enum-told-4
-enum-told-4 c = search needs
-
-enum-told-5 : tie.Need-enum-told-5
-enum-told-5 c = search needs
-
-enum-told-6 : tie.Need-enum-told-6
-enum-told-6 c = search needs
-
-enum-told-7 : tie.Need-enum-told-7
-enum-told-7 c = search needs
-
-enum-told-8 : tie.Need-enum-told-8
-enum-told-8 c = search needs
-
 returns : tie.Need-returns
 returns c = sym (ap (waitingAfter _ _) (c .before .event .given .1))
 
@@ -45,39 +31,7 @@ returns-4 : tie.Need-returns-4
 returns-4 c = search needs
 
 returns-5 : tie.Need-returns-5
-returns-5 c = search needs
-
-returns-6 : tie.Need-returns-6
-returns-6 c = search needs
-
-returns-7 : tie.Need-returns-7
-returns-7 c = search needs
-
-returns-8 : tie.Need-returns-8
-returns-8 c = search needs
-
-returns-9 : tie.Need-returns-9
-returns-9 c = search needs
+returns-5 c = waiting-stays _ (c .before .args .reading) (c .before .args .event) (c .match .keys5)
 
 pub waiting-after-spec : {M : Type 1} → statement M
-waiting-after-spec =
-    tie.close
-    (tie.spec
-    enum-known-event
-    enum-told
-    enum-told-2
-    enum-told-3
-    enum-told-4
-    enum-told-5
-    enum-told-6
-    enum-told-7
-    enum-told-8
-    returns
-    returns-2
-    returns-3
-    returns-4
-    returns-5
-    returns-6
-    returns-7
-    returns-8
-    returns-9)
+waiting-after-spec = tie.close (tie.spec enum-known-event enum-told enum-told-2 enum-told-3 returns returns-2 returns-3 returns-4 returns-5)
