@@ -5,6 +5,4 @@ pub mod Said
 pub mod Cases
 pub mod Round
 pub mod Turns
-pub mod Passing
-pub mod Held
 pub mod RunBack

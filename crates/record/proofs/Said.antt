@@ -9,10 +9,8 @@ use Rattle.record.specs.declared.put.Put.{Put}
 use Rattle.record.specs.declared.put.Put.the-variants as put
 use Rattle.record.specs.declared.read.Read.{Read}
 use Rattle.record.specs.declared.read.Read.the-variants as read
-use Rattle.record.specs.declared.reader.Taken.{Taken}
 use Rattle.record.specs.Put.{saidPut}
 use Rattle.record.specs.Read.{saidRead}
-use Rattle.record.specs.Reader.{SaidTaken, saidTaken}
 
 abbrev heardRead : List ℕ → Read
 heardRead l =
@@ -44,13 +42,3 @@ heard-put (put.Refused refusal) = refl
 
 pub said-put-injective : (a b : Put) → saidPut a ≡ saidPut b → a ≡ b
 said-put-injective a b e = sym (heard-put a) ∙ ap heardPut e ∙ heard-put b
-
-heardTaken : SaidTaken → Taken
-heardTaken s = record { read = heardRead (s .read); reader = s .reader }
-
-heard-taken : (t : Taken) → heardTaken (saidTaken t) ≡ t
-unfolding heardTaken
-heard-taken t = ap (λ (r : Read). record { read = r; reader = t .reader }) (heard-read (t .read))
-
-pub said-taken-injective : (a b : Taken) → saidTaken a ≡ saidTaken b → a ≡ b
-said-taken-injective a b e = sym (heard-taken a) ∙ ap heardTaken e ∙ heard-taken b

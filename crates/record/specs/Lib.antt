@@ -4,4 +4,3 @@ pub mod Allowed
 pub mod Read
 pub mod Put
 pub mod Run
-pub mod Reader

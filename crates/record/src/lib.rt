@@ -4,7 +4,6 @@ mod message; // a message's six numbers, and the record's numbers by name
 mod number; // numbers of four bytes, high first
 mod put; // the writer of one record
 mod read; // what stands at a place
-mod reader; // the reader that stands on the received bytes
 mod run; // the writer of several records
 
 pub use allow::allowed;
@@ -14,11 +13,6 @@ pub use put::put_at;
 pub use put::put_record;
 pub use read::Read;
 pub use read::record_at;
-pub use reader::Passed;
-pub use reader::Reader;
-pub use reader::Taken;
-pub use reader::passed_from;
-pub use reader::records;
 pub use run::Run;
 pub use run::Written;
 pub use run::put_run;

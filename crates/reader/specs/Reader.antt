@@ -3,13 +3,13 @@ use Prim.Native.Nat.{ℕ, zero, suc}
 use mathlib.Core.List.{List}
 use lib.ListN.{length}
 use denote.Ref.{now}
 use Rattle.record.specs.declared.read.Read.{Read}
 use Rattle.record.specs.declared.read.Read.the-variants.{Record, Refused}
-use Rattle.record.specs.declared.reader.Reader.{Reader}
-use Rattle.record.specs.declared.reader.Step.{Step}
-use Rattle.record.specs.declared.reader.Taken.{Taken}
-use Rattle.record.specs.declared.reader.Passed.{Passed}
+use Rattle.reader.specs.declared.Reader.{Reader}
+use Rattle.reader.specs.declared.Step.{Step}
+use Rattle.reader.specs.declared.Taken.{Taken}
+use Rattle.reader.specs.declared.Passed.{Passed}
 use Rattle.record.specs.Read.{readAt, saidRead}
 
 -- "15 to 19 leave place .. untouched": a record moves the reader past it, a refusal leaves it where it stood
 abbrev pub afterRead : Read → ℕ → ℕ

@@ -1,8 +1,8 @@
 // The reader: it stands on the received bytes and remembers how far it has come.
-use crate::read::Read;
-use crate::read::record_at;
+use record::Read;
+use record::record_at;
 ghost use mathlib.Core.Path.{_≡_};
-ghost use Rattle.record.specs.Reader.{stepAt, takenBy, saidTaken, passedFrom};
+ghost use Rattle.reader.specs.Reader.{stepAt, takenBy, saidTaken, passedFrom};
 
 pub struct Reader<'a> {
     src: &'a [u8],

@@ -5,13 +5,13 @@ use native.Mathlib.Numerals.{add-one}
 use native.Mathlib.Omega.{arith}
 use borrow.Author.Needs.{needs}
 use lib.ListN.{length}
 use Rattle.record.specs.declared.read.Read.the-variants.{Record}
 use Rattle.record.specs.Read.{readAt}
-use Rattle.record.specs.Reader.{passing}
+use Rattle.reader.specs.Reader.{passing}
 use Rattle.record.proofs.Said.{said-read-injective}
-use Rattle.record.proofs.Passing.{lies, passes, stops}
-use Rattle.record.proofs.reader.passed_from.Statement.{statement}
-use Rattle.record.proofs.reader.passed_from.Tie as tie
+use Rattle.reader.proofs.Passing.{lies, passes, stops}
+use Rattle.reader.proofs.passed_from.Statement.{statement}
+use Rattle.reader.proofs.passed_from.Tie as tie
 
 abbrev Inv-loop : tie.InvT-loop
 Inv-loop s at next₀ count₀ next count =

@@ -1,10 +1,10 @@
 -- A record gives the next place, a refusal the place itself.
 use mathlib.Core.Path.{_≡_, sym, _∙_}
 use borrow.Author.Needs.{needs}
 use Rattle.record.specs.Read.{readAt}
 use Rattle.record.proofs.Said.{said-read-injective}
-use Rattle.record.proofs.reader.step_at.Statement.{statement}
-use Rattle.record.proofs.reader.step_at.Tie as tie
+use Rattle.reader.proofs.step_at.Statement.{statement}
+use Rattle.reader.proofs.step_at.Tie as tie
 
 record-at-requires : tie.Need-record-at-requires
 record-at-requires c κs = search needs

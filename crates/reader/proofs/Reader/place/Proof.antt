@@ -32,13 +32,13 @@ use denote.Triple.Spec.{Meets, tripleOf}
 use denote.Triple.Table.{entered}
 use denote.Triple.Walked.{says, Stays, stay-none, walkOf, goes-none, Walks, ends-at, walked, walk-meets}
 use denote.Exit.{yes}
-use Rattle.record.specs.declared.reader.Reader.{Reader}
-use Rattle.record.proofs.reader.Reader as T
-use Rattle.record.proofs.reader.Reader.Laws as T′
-use Rattle.record.proofs.reader.Reader.place.Key.{name as #place}
-use Rattle.record.proofs.reader.Reader.place as place
-use Rattle.record.proofs.reader.Reader.place.Statement as stated
-use Rattle.record.proofs.reader.Reader.place.Code as code
+use Rattle.reader.specs.declared.Reader.{Reader}
+use Rattle.reader.proofs.Reader as T
+use Rattle.reader.proofs.Reader.Laws as T′
+use Rattle.reader.proofs.Reader.place.Key.{name as #place}
+use Rattle.reader.proofs.Reader.place as place
+use Rattle.reader.proofs.Reader.place.Statement as stated
+use Rattle.reader.proofs.Reader.place.Code as code
 
 -- the struct's type, over the signature's lifetimes
 abbrev B : Lfts 1 → RattleType

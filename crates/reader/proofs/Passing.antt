@@ -4,12 +4,12 @@ use mathlib.Core.Path.{_≡_, refl, sym}
 use mathlib.Core.List.{List}
 use native.Mathlib.Omega.{arith}
 use lib.ListN.{length, take, drop, length-take, length-drop}
 use Rattle.record.specs.declared.message.Message.{Message}
 use Rattle.record.specs.declared.read.Read.{Read}
 use Rattle.record.specs.declared.read.Read.the-variants.{Record, Refused}
 use Rattle.record.specs.Read.{readAt}
-use Rattle.record.specs.Reader.{passing, passedFrom}
+use Rattle.reader.specs.Reader.{passing, passedFrom}
 use Rattle.record.proofs.Round.{told}
 
 -- a record that is read lies within the bytes, and the next place is its end
 pub lies : (s : List ℕ) (at : ℕ) (m : Message) (next : ℕ) → readAt s at ≡ Record m next → (at + 11 ≤ length s) × (next ≡ at + 11)

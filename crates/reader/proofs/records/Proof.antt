@@ -36,25 +36,25 @@ use denote.Triple.Table.{entered, cited}
 use denote.Triple.Walked.{says, Stays, stay-none-slice, walkOf, goes-none-slice, Walks, ends-at, walked, walk-meets}
 use denote.Exit.{yes}
 use denote.Triple.Clauses.{ensured, lasts}
-use Rattle.record.specs.Reader.{passedFrom}
-use Rattle.record.specs.declared.reader.Reader.{Reader}
-use Rattle.record.specs.declared.reader.Passed.{Passed}
-use Rattle.record.proofs.reader.Reader as T
-use Rattle.record.proofs.reader.Reader.Laws as T′
-use Rattle.record.proofs.reader.Passed as S
-use Rattle.record.proofs.reader.Passed.Laws as S′
-use Rattle.record.proofs.reader.Reader.new as new
-use Rattle.record.proofs.reader.Reader.new.Symbol as new-def
-use Rattle.record.proofs.reader.Reader.new.Symbol.{name as #new}
-use Rattle.record.proofs.reader.Reader.new.Met as new-thm
-use Rattle.record.proofs.reader.Reader.rest as rest
-use Rattle.record.proofs.reader.Reader.rest.Symbol as rest-def
-use Rattle.record.proofs.reader.Reader.rest.Symbol.{name as #rest}
-use Rattle.record.proofs.reader.Reader.rest.Met as rest-thm
-use Rattle.record.proofs.reader.records.Key.{name as #records}
-use Rattle.record.proofs.reader.records as records
-use Rattle.record.proofs.reader.records.Statement as stated
-use Rattle.record.proofs.reader.records.Code as code
+use Rattle.reader.specs.Reader.{passedFrom}
+use Rattle.reader.specs.declared.Reader.{Reader}
+use Rattle.reader.specs.declared.Passed.{Passed}
+use Rattle.reader.proofs.Reader as T
+use Rattle.reader.proofs.Reader.Laws as T′
+use Rattle.reader.proofs.Passed as S
+use Rattle.reader.proofs.Passed.Laws as S′
+use Rattle.reader.proofs.Reader.new as new
+use Rattle.reader.proofs.Reader.new.Symbol as new-def
+use Rattle.reader.proofs.Reader.new.Symbol.{name as #new}
+use Rattle.reader.proofs.Reader.new.Met as new-thm
+use Rattle.reader.proofs.Reader.rest as rest
+use Rattle.reader.proofs.Reader.rest.Symbol as rest-def
+use Rattle.reader.proofs.Reader.rest.Symbol.{name as #rest}
+use Rattle.reader.proofs.Reader.rest.Met as rest-thm
+use Rattle.reader.proofs.records.Key.{name as #records}
+use Rattle.reader.proofs.records as records
+use Rattle.reader.proofs.records.Statement as stated
+use Rattle.reader.proofs.records.Code as code
 
 -- the struct's type, over the signature's lifetimes
 abbrev B : Lfts 1 → RattleType
@@ -162,5 +162,5 @@ records-spec 𝓤 H 𝓜 𝓖 𝓡 =
     entered 𝓤 H (tripleOf 𝓤 H (𝓖 .A) records.signature (records.spec 𝓤 H (𝓖 .A) (𝓜 .mem) (𝓡 .run)))
     (tables 𝓤 H 𝓜 𝓡 code.env .C) (tables 𝓤 H 𝓜 𝓡 code.env .Λ) #records code.function (code.unfolded 𝓤 H 𝓜 𝓡)
     (records-meets 𝓤 H (𝓖 .A) (givenOf 𝓤 H 𝓜 𝓖) (𝓜 .mem) (𝓡 .run) (tablesOf 𝓤 H 𝓜 (tables 𝓤 H 𝓜 𝓡 code.env))
-    (cited 𝓤 H (New 𝓤 H (𝓖 .A) (𝓜 .mem) (𝓡 .run)) 𝓜 𝓡 code.env #new new-def.routine code.calls-record·reader·Reader·new (new-thm.met 𝓤 H 𝓜 𝓖 𝓡))
-    (cited 𝓤 H (Rest 𝓤 H (𝓖 .A) (𝓜 .mem) (𝓡 .run)) 𝓜 𝓡 code.env #rest rest-def.routine code.calls-record·reader·Reader·rest (rest-thm.met 𝓤 H 𝓜 𝓖 𝓡)))
+    (cited 𝓤 H (New 𝓤 H (𝓖 .A) (𝓜 .mem) (𝓡 .run)) 𝓜 𝓡 code.env #new new-def.routine code.calls-reader·Reader·new (new-thm.met 𝓤 H 𝓜 𝓖 𝓡))
+    (cited 𝓤 H (Rest 𝓤 H (𝓖 .A) (𝓜 .mem) (𝓡 .run)) 𝓜 𝓡 code.env #rest rest-def.routine code.calls-reader·Reader·rest (rest-thm.met 𝓤 H 𝓜 𝓖 𝓡)))

@@ -1,0 +1,3 @@
+pub mod Said
+pub mod Passing
+pub mod Held
