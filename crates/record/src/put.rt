@@ -14,23 +14,36 @@ pub enum Put {
     Refused(u8),
 }
 
+fn record_of(m: Message) -> [u8; Message::LENGTH]
+    ensures { λ r. ⌜ r ≡ bytesOf m ⌝ }
+{
+    let number = bytes_of(m.number);
+    [
+        Message::MARK_FIRST,
+        Message::MARK_SECOND,
+        m.kind,
+        m.station,
+        number[0],
+        number[1],
+        number[2],
+        number[3],
+        m.profile,
+        m.mode,
+        m.detail,
+    ]
+}
+
 // The eleven bytes, into the front of a buffer that has the room.
 fn store(buf: &mut [u8], m: Message)
     requires { ⌜ 11 ≤ length (now buf) ⌝ }
     ensures { λ r. ⌜ now (buf .exit) ≡ bytesOf m ++ drop 11 (now (buf .entry)) ⌝ }
 {
-    let number = bytes_of(m.number);
-    buf[0] = Message::MARK_FIRST;
-    buf[1] = Message::MARK_SECOND;
-    buf[2] = m.kind;
-    buf[3] = m.station;
-    buf[4] = number[0];
-    buf[5] = number[1];
-    buf[6] = number[2];
-    buf[7] = number[3];
-    buf[8] = m.profile;
-    buf[9] = m.mode;
-    buf[10] = m.detail;
+    let bytes = record_of(m);
+    let mut i = 0;
+    while i < Message::LENGTH {
+        buf[i] = bytes[i];
+        i += 1;
+    }
 }
 
 // A record into the front of a buffer.

@@ -1,87 +1,79 @@
--- Eleven stores are the record's eleven bytes, and what stood behind them.
+-- The record's bytes are copied one by one, and what stood behind them stays.
+use Prim.Native.Nat.{ℕ, _≤_, _-_}
+use mathlib.Core.Path.{_≡_, refl, sym, ap, _∙_}
+use mathlib.Core.List.{List}
+use native.Mathlib.Nat.{zero-add}
+use native.Mathlib.Numerals.{add-one}
 use native.Mathlib.Omega.{arith}
-use lib.ListN.{length-set}
-use lib.Seq.{sets-eq}
-use Rattle.record.specs.Put.{bytesOf}
 use borrow.Author.Needs.{needs}
+use lib.ListN.{length, getD, set, length-set}
+use lib.Seq.{paste, paste-zero, paste-suc}
 use Rattle.record.proofs.put.store.Statement.{statement}
 use Rattle.record.proofs.put.store.Tie as tie
 
-bytes-of-requires : tie.Need-bytes-of-requires
-bytes-of-requires c κs = search needs
+abbrev Inv-loop : tie.InvT-loop
+Inv-loop buf₀ bytes i₀ buf i = (i ≤ 11) × (length bytes ≡ 11) × (length buf ≡ length buf₀) × (buf ≡ paste buf₀ 0 bytes i)
 
-slice-write-buf : tie.Need-slice-write-buf
-slice-write-buf c = search needs
+abbrev μ-loop : tie.MeasureT-loop
+μ-loop buf₀ bytes i₀ buf i = 11 - i
 
-slice-write-buf-2 : tie.Need-slice-write-buf-2
-slice-write-buf-2 c = simp length-set (omega arith)
+record-of-requires : tie.Need-record-of-requires Inv-loop μ-loop
+record-of-requires c κs = search needs
 
-slice-write-buf-3 : tie.Need-slice-write-buf-3
-slice-write-buf-3 c = simp length-set (omega arith)
+loop-holds : tie.Need-loop-holds Inv-loop μ-loop
+loop-holds c = (omega arith, search needs, refl, paste-zero (c .before .before .args .buf .now) 0 (c .record-of .result))
 
-slice-write-buf-4 : tie.Need-slice-write-buf-4
-slice-write-buf-4 c = simp length-set (omega arith)
+array-read-buf : tie.Need-array-read-buf Inv-loop μ-loop
+array-read-buf c = omega arith
 
-array-read-buf : tie.Need-array-read-buf
-array-read-buf c = search needs
+slice-write-buf : tie.Need-slice-write-buf Inv-loop μ-loop
+slice-write-buf c = omega arith
 
-slice-write-buf-5 : tie.Need-slice-write-buf-5
-slice-write-buf-5 c = simp length-set (omega arith)
+add-i : tie.Need-add-i Inv-loop μ-loop
+add-i c = omega arith
 
-array-read-buf-2 : tie.Need-array-read-buf-2
-array-read-buf-2 c = search needs
+loop-less : tie.Need-loop-less Inv-loop μ-loop
+loop-less c = omega arith
 
-slice-write-buf-6 : tie.Need-slice-write-buf-6
-slice-write-buf-6 c = simp length-set (omega arith)
+loop-again : tie.Need-loop-again Inv-loop μ-loop
+loop-again c =
+    let b = c .before .before .before .before .args .buf .now in
+    let r = c .before .before .record-of .result in
+    let l = c .before .loop in (
+      omega arith,
+      l .inv .1,
+      length-set (l .buf) (l .i) _ ∙ l .inv .2,
+      ap (λ (x : List ℕ). set x (l .i) (getD r (l .i) 0)) (l .inv .3)
+          ∙ ap (λ (k : ℕ). set (paste b 0 r (l .i)) k (getD r (l .i) 0)) (sym (zero-add (l .i)))
+          ∙ paste-suc b 0 r (l .i) 0 (omega arith) (omega arith)
+          ∙ ap (λ (k : ℕ). paste b 0 r k) (sym (add-one (l .i))),
+    )
 
-array-read-buf-3 : tie.Need-array-read-buf-3
-array-read-buf-3 c = search needs
+same-length : tie.Need-same-length Inv-loop μ-loop
+same-length c = search needs
 
-slice-write-buf-7 : tie.Need-slice-write-buf-7
-slice-write-buf-7 c = simp length-set (omega arith)
-
-array-read-buf-4 : tie.Need-array-read-buf-4
-array-read-buf-4 c = search needs
-
-slice-write-buf-8 : tie.Need-slice-write-buf-8
-slice-write-buf-8 c = simp length-set (omega arith)
-
-slice-write-buf-9 : tie.Need-slice-write-buf-9
-slice-write-buf-9 c = simp length-set (omega arith)
-
-slice-write-buf-10 : tie.Need-slice-write-buf-10
-slice-write-buf-10 c = simp length-set (omega arith)
-
-slice-write-buf-11 : tie.Need-slice-write-buf-11
-slice-write-buf-11 c = simp length-set (omega arith)
-
-same-length : tie.Need-same-length
-same-length c = simp length-set
-
-returns : tie.Need-returns
+returns : tie.Need-returns Inv-loop μ-loop
 returns c =
-    rw (c .bytes-of .ensures)
-    (sets-eq (bytesOf (c .before .before .args .m)) (c .before .before .args .buf .now) 0 (omega arith))
+    let b = c .before .before .before .before .args .buf .now in
+    let r = c .before .before .record-of in
+    let l = c .before .loop in
+    let all : l .i ≡ 11 = omega arith in
+    l .inv .3
+    ∙ ap (λ (k : ℕ). paste b 0 (r .result) k) all
+    ∙ ap (λ (x : List ℕ). paste b 0 x 11) (r .ensures)
 
 pub store-spec : {M : Type 1} → statement M
 store-spec =
     tie.close
     (tie.spec
-    bytes-of-requires
-    slice-write-buf
-    slice-write-buf-2
-    slice-write-buf-3
-    slice-write-buf-4
+    Inv-loop
+    μ-loop
+    record-of-requires
+    loop-holds
     array-read-buf
-    slice-write-buf-5
-    array-read-buf-2
-    slice-write-buf-6
-    array-read-buf-3
-    slice-write-buf-7
-    array-read-buf-4
-    slice-write-buf-8
-    slice-write-buf-9
-    slice-write-buf-10
-    slice-write-buf-11
+    slice-write-buf
+    add-i
+    loop-less
+    loop-again
     same-length
     returns)
