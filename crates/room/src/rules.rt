@@ -49,7 +49,7 @@ fn sending_refusal(stage: Stage, own: u8, last: u32) -> u8
     number_refusal(last)
 }
 
-pub fn hello_refusal(stage: Stage, last: u32) -> u8
+fn hello_refusal(stage: Stage, last: u32) -> u8
     ensures { λ r. ⌜ r ≡ helloRefusal stage last ⌝ }
 {
     if !stage.out {
