@@ -8,6 +8,7 @@ use crate::print::put_number;
 use crate::print::put_number_line;
 use crate::print::put_refused;
 use crate::print::put_two;
+use crate::words::first;
 use crate::words::next_number;
 use crate::words::next_u8;
 use crate::words::next_u32;
@@ -78,10 +79,7 @@ pub(crate) fn read_line(s: &[u8], place: usize, out: &mut [u8], at: usize) -> us
 }
 
 fn put_read(out: &mut [u8], at: usize, bytes: &[u8], count: usize, from: usize) -> usize {
-    if bytes.len() < count {
-        return put_line(out, at, b"bad line");
-    }
-    match record::record_at(&bytes[..count], from) {
+    match record::record_at(first(bytes, count), from) {
         Read::Record(m, next) => put_message(out, at, m, next),
         Read::Refused(refusal) => put_refused(out, at, refusal),
     }

@@ -2,6 +2,7 @@
 use crate::rooms;
 use crate::serve;
 use crate::words::Word;
+use crate::words::first;
 use crate::words::first_word;
 use crate::words::is_word;
 use crate::words::next_u32;
@@ -124,14 +125,11 @@ fn is_silent(line: &[u8], count: usize) -> bool {
     line[0] == b'#'
 }
 
-// Before the first settings line.
-fn without_settings(said: Line) -> Line {
+fn needs_settings(said: Line) -> bool {
     match said {
-        Line::Settings(settings) => Line::Settings(settings),
-        Line::Server(_, _) => Line::Plain(Plain::NoSettings),
-        Line::Room(_, _, _) => Line::Plain(Plain::NoSettings),
-        Line::Question(_, _, _) => Line::Plain(Plain::NoSettings),
-        Line::Plain(plain) => Line::Plain(plain),
+        Line::Settings(_) => false,
+        Line::Plain(_) => false,
+        _ => true,
     }
 }
 
@@ -146,9 +144,12 @@ pub(crate) fn meant(line: &[u8], count: usize, whole: bool, ready: bool) -> Line
     if line.len() <= count {
         return Line::Plain(Plain::Bad);
     }
-    let said = line_of(&line[..count]);
+    let said = line_of(first(line, count));
     if ready {
         return said;
     }
-    without_settings(said)
+    if needs_settings(said) {
+        return Line::Plain(Plain::NoSettings);
+    }
+    said
 }

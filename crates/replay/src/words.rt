@@ -26,6 +26,14 @@ pub(crate) struct Number8 {
     pub(crate) end: usize,
 }
 
+// The first bytes, or all where there are fewer.
+pub(crate) fn first(s: &[u8], count: usize) -> &[u8] {
+    if s.len() < count {
+        return s;
+    }
+    &s[..count]
+}
+
 // The end of a word that begins somewhere.
 fn end_from(s: &[u8], from: usize) -> usize {
     let mut end = from;
