@@ -202,15 +202,9 @@ impl Station {
             Event::Restart => 0,
             Event::Ack(_, number, ack) => {
                 let held = hold::hold_at(holds, rules::ack_profile(ack)).mode;
-                rules::ack_refusal(
-                    waiting,
-                    settings.lease(),
-                    self.reading,
-                    last,
-                    number,
-                    held,
-                    ack,
-                )
+                let lease = settings.lease();
+                let now = self.reading;
+                rules::ack_refusal(waiting, lease, now, last, number, held, ack)
             }
             Event::Nack(_, number, _) => rules::nack_refusal(waiting, last, number),
             Event::Demand(_, _, _) => rules::demand_refusal(at),
