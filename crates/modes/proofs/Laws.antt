@@ -126,3 +126,20 @@ pub writes-mode : (a : ℕ) → writes a ≡ true → isMode a ≡ true
 unfolding writes
 writes-mode a h =
     mode-number a ∙ implied _ _ (all1 (λ (a : ℕ). not (among a (4 ∷ 5 ∷ 6 ∷ [])) || not (eqb a 0)) refl a) h
+
+-- what covers a mode is one, and what covers a writing one writes
+pub mode-covered : (a b : ℕ) → covers a b ≡ true → isMode b ≡ true → isMode a ≡ true
+unfolding covers
+mode-covered a b p q =
+    mode-number a
+    ∙ implied _ _
+    (implied _ _ (all2 (λ (a b : ℕ). not (over a b) || (not (not (eqb b 0)) || not (eqb a 0))) refl a b) p)
+    (sym (mode-number b) ∙ q)
+
+pub writes-covered : (a b : ℕ) → covers a b ≡ true → writes b ≡ true → writes a ≡ true
+unfolding covers writes
+writes-covered a b p q =
+    implied _ _
+    (implied _ _
+    (all2 (λ (a b : ℕ). not (over a b) || (not (among b (4 ∷ 5 ∷ 6 ∷ [])) || among a (4 ∷ 5 ∷ 6 ∷ []))) refl a b) p)
+    q

@@ -1,4 +1,4 @@
--- What a station asks is read back from its message, and a kind that is none of 1 to 5 asks nothing.
+-- What a station asks is read back from its message, and a kind that is none of 1 to 5 asks nothing. What 3 and 4 leave is in range.
 -- Assumes nothing.
 use mathlib.Core.Path.{_≡_, refl, sym, ap, _∙_}
 use Prim.Native.Nat.{ℕ, zero, suc, _≤_, _<_}
@@ -6,11 +6,11 @@ use native.Mathlib.Omega.{arith}
 use borrow.Author.Tests.{leb-false}
 use lib.Dec.{leb}
 use mathlib.Core.Bool.{Bool, true, false, cond}
-use Rattle.modes.specs.Modes.{mode, isMode}
+use Rattle.modes.specs.Modes.{mode}
 use Rattle.modes.specs.declared.Mode.{Mode}
 use Rattle.record.specs.declared.message.Message.{Message}
-use Rattle.timing.proofs.Choice.{fails}
-use Rattle.requests.specs.Request.{Request, Hello, KeepAlive, Ask, Release, Keep, Asked, For, Nothing, profileOf, requestRefusal, messageOf, askedAs, requestOf, SaidAsked, saidAsked}
+use Rattle.timing.proofs.Choice.{past-if, past-unless}
+use Rattle.requests.specs.Request.{Request, Hello, KeepAlive, Ask, Release, Keep, Asked, For, Nothing, profileOf, pairRefusal, requestRefusal, messageOf, askedAs, requestOf, SaidAsked, saidAsked}
 
 pub asked-back : (station number : ℕ) (q : Request) → requestOf (messageOf station number q) ≡ For q
 unfolding requestOf messageOf
@@ -54,10 +54,16 @@ back Nothing = refl
 pub asked-told : (a b : Asked) → saidAsked a ≡ saidAsked b → a ≡ b
 asked-told a b e = sym (back a) ∙ ap (λ (s : SaidAsked). askedBack (s .good) s) e ∙ back b
 
--- what a request that is not refused by 3 and 4 names
+-- what is not refused by 3 names a profile of the settings', and not by 4 a good mode
+pub in-profiles : (profiles p rest : ℕ) → cond (leb profiles p) 3 rest ≡ 0 → p < profiles
+in-profiles profiles p rest e = leb-false profiles p (past-if (leb profiles p) 3 rest e (λ z. omega arith) .0)
+
+pub in-modes : (profiles p : ℕ) (good : Bool) → pairRefusal profiles p good ≡ 0 → good ≡ true
+in-modes profiles p good e = past-unless good 0 4 (past-if (leb profiles p) 3 _ e (λ z. omega arith) .1) (λ z. omega arith) .0
+
 pub named-below : (profiles : ℕ) → 1 ≤ profiles → (q : Request) → requestRefusal profiles q ≡ 0 → profileOf q < profiles
 named-below profiles h Hello e = h
 named-below profiles h KeepAlive e = h
-named-below profiles h (Ask p m) e = leb-false profiles p (fails (leb profiles p) 3 (cond (isMode (m .0)) 0 4) e (λ z. omega arith))
-named-below profiles h (Release p) e = leb-false profiles p (fails (leb profiles p) 3 0 e (λ z. omega arith))
-named-below profiles h (Keep p) e = leb-false profiles p (fails (leb profiles p) 3 0 e (λ z. omega arith))
+named-below profiles h (Ask p m) e = in-profiles profiles p _ e
+named-below profiles h (Release p) e = in-profiles profiles p _ e
+named-below profiles h (Keep p) e = in-profiles profiles p _ e

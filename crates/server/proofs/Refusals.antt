@@ -6,8 +6,6 @@ use Prim.Native.Nat.{ℕ, _<_, _≤_}
 use native.Mathlib.Omega.{arith}
 use lib.Dec.{leb}
 use borrow.Author.Tests.{leb-false}
-use Rattle.modes.specs.Modes.{isMode}
-use Rattle.modes.specs.declared.Mode.{Mode}
 use Rattle.timing.specs.Limits.{readingLimit, mostStations, mostProfiles}
 use Rattle.timing.specs.Reading.{orElse, readingRefusal}
 use Rattle.timing.specs.declared.settings.Settings.{Settings}
@@ -16,7 +14,7 @@ use Rattle.timing.proofs.Ranges.{ranges}
 use Rattle.timing.proofs.Choice as choice
 use Rattle.requests.specs.Request.{profileOf, requestRefusal}
 use Rattle.requests.proofs.Back.{named-below}
-use Rattle.server.specs.Hear.{Request, Ask}
+use Rattle.server.specs.Hear.{Request}
 use Rattle.server.specs.Refusal.{Event, Message, eventRefusal, refusal}
 
 module _ (z : Settings) (last now : ℕ) (e : Event) where
@@ -37,10 +35,7 @@ module _ (z : Settings) (last now : ℕ) (e : Event) where
 module _ (z : Settings) (last now : ℕ) (e : Event) (accepted : refusal z last now e ≡ 0) where
   parts : (inRange z ≡ true) × (orElse (eventRefusal z e) (readingRefusal last now) ≡ 0)
   unfolding refusal
-  parts = (
-    choice.allows (inRange z) _ 1 accepted (λ z. omega arith),
-    choice.inside (inRange z) (orElse (eventRefusal z e) (readingRefusal last now)) 1 accepted (λ z. omega arith),
-  )
+  parts = choice.past-unless (inRange z) (orElse (eventRefusal z e) (readingRefusal last now)) 1 accepted (λ z. omega arith)
 
   pub settings-good : inRange z ≡ true
   settings-good = parts .0
@@ -51,12 +46,10 @@ module _ (z : Settings) (last now : ℕ) (e : Event) (accepted : refusal z last 
   pub reading-good : (now ≤ readingLimit) × (last ≤ now)
   reading-good = choice.reading-good last now (choice.or-zero (eventRefusal z e) (readingRefusal last now) (parts .1) .1)
 
--- and of a message: its station and its profile are among those of the settings, and an asked mode is one of the six
+-- and of a message: its station and its profile are among those of the settings
 module _ (z : Settings) (last now i k : ℕ) (q : Request) (accepted : refusal z last now (Message i k q) ≡ 0) where
   both-good : (leb (z .stations) i ≡ false) × (requestRefusal (z .profiles) q ≡ 0)
-  both-good =
-      let e = event-good z last now (Message i k q) accepted in
-      (choice.fails (leb (z .stations) i) 2 _ e (λ z. omega arith), choice.passes (leb (z .stations) i) 2 _ e (λ z. omega arith))
+  both-good = choice.past-if (leb (z .stations) i) 2 _ (event-good z last now (Message i k q) accepted) (λ z. omega arith)
 
   pub station-below : i < z .stations
   station-below = leb-false (z .stations) i (both-good .0)
@@ -70,6 +63,3 @@ module _ (z : Settings) (last now i k : ℕ) (q : Request) (accepted : refusal z
   in-arrays =
       let r = ranges z (settings-good z last now (Message i k q) accepted) in
       (omega (arith, station-below), omega (arith, profile-below))
-
-pub asked-mode : (profiles p : ℕ) (m : Mode) → requestRefusal profiles (Ask p m) ≡ 0 → isMode (m .0) ≡ true
-asked-mode profiles p m e = choice.allows (isMode (m .0)) 0 4 (choice.passes (leb profiles p) 3 _ e (λ z. omega arith)) (λ z. omega arith)

@@ -2,17 +2,19 @@
 -- Assumes nothing.
 use mathlib.Core.Path.{_≡_, refl, ap, _∙_}
 use mathlib.Core.Bool.{Bool, true, false, cond, true≢false}
-use mathlib.Core.List.{List}
+use mathlib.Core.List.{List, [], _∷_}
 use Prim.Native.Nat.{ℕ, zero, suc, _<_}
 use lib.Dec.{eqb}
 use lib.ListN.{length, getD, replicate, length-set}
 use lib.Seq.{getD-set-same, getD-set-other}
 use borrow.Author.Tests.{eqb-true, eqb-false}
+use Rattle.modes.specs.declared.Mode.{Mode}
 use Rattle.timing.specs.Limits.{mostProfiles}
-use Rattle.station.specs.Event.{Request, Hello, KeepAlive, Ask, Release, Keep, Ack, Done, Granted, Wait, InUse, Event, Send, Begin, Edit, End, WriteOut, Restart, Acked, Nacked, Demand, Hold}
+use Rattle.station.specs.Event.{Request, Hello, KeepAlive, Ask, Release, Keep, Ack, Done, Granted, Wait, InUse, Event, Send, Begin, Edit, End, WriteOut, Restart, Acked, Nacked, Demand, Hold, Standing, Out, Open, Closing}
 use Rattle.room.specs.Hold.{noHold, noHolds, holdIn, withMode, withUnwritten, changed}
+use Rattle.room.specs.Stage.{isOut}
 use Rattle.room.specs.Rules.{ackProfile}
-use Rattle.station.specs.Effect.{standingAfter, sentAt, startAfter, lastAfter, waitingAfter, holdsAfter, begun, ended}
+use Rattle.station.specs.Effect.{nacked, standingAfter, sentAt, startAfter, lastAfter, waitingAfter, holdsAfter, begun, ended}
 use Rattle.station.specs.Station.{Station, holdAt, modeOf, gone, atReading, isOver, endedIf, expire, isRestart, after}
 use Rattle.requests.specs.Request.{profileOf}
 
@@ -200,41 +202,45 @@ mode-is : (t : Bool) (g h : Hold) → cond t g h .mode .0 ≡ cond t (g .mode .0
 mode-is true g h = refl
 mode-is false g h = refl
 
-same-mode : (t : Bool) (m : ℕ) → cond t m m ≡ m
-same-mode true m = refl
-same-mode false m = refl
+-- a change that leaves the mode leaves every mode, also past the end
+pub modes-kept : (f : Hold → Hold) → ((h : Hold) → f h .mode ≡ h .mode) → (holds : List Hold) (p q : ℕ)
+    → holdIn (changed f p holds) q .mode .0 ≡ holdIn holds q .mode .0
+modes-kept f e [] p q = refl
+modes-kept f e (h ∷ holds) zero zero = ap (λ (m : Mode). m .0) (e h)
+modes-kept f e (h ∷ holds) zero (suc q) = refl
+modes-kept f e (h ∷ holds) (suc p) zero = refl
+modes-kept f e (h ∷ holds) (suc p) (suc q) = modes-kept f e holds p q
 
-module _ (x : Station) (q : ℕ) where
-  at-hold : (e : Event) → isRestart e ≡ false → profileFor e < length (x .holds)
-      → modeOf (after x e) q ≡ cond (eqb q (profileFor e)) (holdChange e (holdAt x q) .mode .0) (modeOf x q)
-  at-hold e r h =
-      ap (λ (k : Hold). k .mode .0) (hold-after x e q r h)
-      ∙ mode-is (eqb q (profileFor e)) (holdChange e (holdAt x q)) (holdAt x q)
-
-  kept : (e : Event) → isRestart e ≡ false → profileFor e < length (x .holds)
-      → holdChange e (holdAt x q) .mode .0 ≡ modeOf x q → modeOf (after x e) q ≡ modeOf x q
-  kept e r h g =
-      at-hold e r h
-      ∙ ap (λ (m : ℕ). cond (eqb q (profileFor e)) m (modeOf x q)) g
-      ∙ same-mode (eqb q (profileFor e)) (modeOf x q)
+mode-changed : (x : Station) (e : Event) (q : ℕ) → isRestart e ≡ false → profileFor e < length (x .holds)
+    → modeOf (after x e) q ≡ cond (eqb q (profileFor e)) (holdChange e (holdAt x q) .mode .0) (modeOf x q)
+mode-changed x e q r h =
+    ap (λ (k : Hold). k .mode .0) (hold-after x e q r h)
+    ∙ mode-is (eqb q (profileFor e)) (holdChange e (holdAt x q)) (holdAt x q)
 
 pub mode-after : (x : Station) (e : Event) (q : ℕ) → profileFor e < length (x .holds) → modeOf (after x e) q ≡ modeAfter x e q
-mode-after x (Send Hello) q h = kept x q (Send Hello) refl h refl
-mode-after x (Send KeepAlive) q h = kept x q (Send KeepAlive) refl h refl
-mode-after x (Send (Ask p m)) q h = kept x q (Send (Ask p m)) refl h refl
-mode-after x (Send (Release p)) q h = at-hold x q (Send (Release p)) refl h
-mode-after x (Send (Keep p)) q h = kept x q (Send (Keep p)) refl h refl
-mode-after x (Begin p m) q h = kept x q (Begin p m) refl h refl
-mode-after x (Edit p) q h = kept x q (Edit p) refl h refl
-mode-after x (End p) q h = kept x q (End p) refl h refl
-mode-after x (WriteOut p) q h = kept x q (WriteOut p) refl h refl
+unfolding after
+mode-after x (Send Hello) q h = refl
+mode-after x (Send KeepAlive) q h = refl
+mode-after x (Send (Ask p m)) q h = refl
+mode-after x (Send (Release p)) q h = mode-changed x (Send (Release p)) q refl h
+mode-after x (Send (Keep p)) q h = refl
+mode-after x (Begin p m) q h = modes-kept begun (λ h. refl) (x .holds) p q
+mode-after x (Edit p) q h = modes-kept (withUnwritten true) (λ h. refl) (x .holds) p q
+mode-after x (End p) q h = modes-kept ended (λ h. refl) (x .holds) p q
+mode-after x (WriteOut p) q h = modes-kept (withUnwritten false) (λ h. refl) (x .holds) p q
 mode-after x Restart q h = ap (λ (k : Hold). k .mode .0) (hold-restarted x q)
-mode-after x (Acked i k Done) q h = kept x q (Acked i k Done) refl h refl
-mode-after x (Acked i k (Granted p m)) q h = at-hold x q (Acked i k (Granted p m)) refl h
-mode-after x (Acked i k (Wait p)) q h = kept x q (Acked i k (Wait p)) refl h refl
-mode-after x (Acked i k (InUse p)) q h = kept x q (Acked i k (InUse p)) refl h refl
-mode-after x (Nacked i k d) q h = kept x q (Nacked i k d) refl h refl
-mode-after x (Demand i p m) q h = kept x q (Demand i p m) refl h refl
+mode-after x (Acked i k Done) q h = refl
+mode-after x (Acked i k (Granted p m)) q h = mode-changed x (Acked i k (Granted p m)) q refl h
+mode-after x (Acked i k (Wait p)) q h = refl
+mode-after x (Acked i k (InUse p)) q h = refl
+mode-after x (Nacked i k d) q h = refl
+mode-after x (Demand i p m) q h = refl
+
+-- a NACK puts nobody out, and lets nobody in
+pub nacked-out : (σ : Standing) → isOut (nacked σ) ≡ isOut σ
+nacked-out Out = refl
+nacked-out Open = refl
+nacked-out Closing = refl
 
 -- there are as many holds as before
 pub after-length : (x : Station) (e : Event) → length (x .holds) ≡ mostProfiles → length (after x e .holds) ≡ mostProfiles

@@ -17,32 +17,11 @@ use Rattle.room.specs.Stage.{isOut, closingPhase, phaseAt, early}
 use Rattle.timing.specs.Reading.{passed}
 use Rattle.room.specs.Rules.{numberRefusal, releaseRefusal, startedRefusal, sendingRefusal, sendRefusal, beginRefusal, editRefusal, endRefusal, writeOutRefusal, fits, ackProfile, ackForbids, nackForbids}
 use Rattle.station.specs.Station.{Station, holdAt, modeOf, startedOf, unwrittenOf, leaseOf, stageOf, forbids}
-use Rattle.timing.proofs.Choice.{or-zero}
+use Rattle.timing.proofs.Choice.{past-if, past-unless, or-zero}
 
--- a rule that starts with 8 and then 9
-in-8 : (t : Bool) (b : ℕ) → cond t 8 b ≡ 0 → (t ≡ false) × (b ≡ 0)
-in-8 true b e = absurd (omega arith)
-in-8 false b e = (refl, e)
-
-in-9 : (t : Bool) (a : ℕ) → cond t a 9 ≡ 0 → (t ≡ true) × (a ≡ 0)
-in-9 true a e = (refl, e)
-in-9 false a e = absurd (omega arith)
-
-in-10 : (t : Bool) (a : ℕ) → cond t a 10 ≡ 0 → (t ≡ true) × (a ≡ 0)
-in-10 true a e = (refl, e)
-in-10 false a e = absurd (omega arith)
-
-in-11 : (t : Bool) → cond {A = ℕ} t 0 11 ≡ 0 → t ≡ true
-in-11 true e = refl
-in-11 false e = absurd (omega arith)
-
-in-12 : (t : Bool) → cond {A = ℕ} t 12 0 ≡ 0 → t ≡ false
-in-12 true e = absurd (omega arith)
-in-12 false e = refl
-
-in-14 : (t : Bool) → cond {A = ℕ} t 0 14 ≡ 0 → t ≡ true
-in-14 true e = refl
-in-14 false e = absurd (omega arith)
+-- 8 where the station is out; else the rest decides
+inside : (out : Bool) (rest : ℕ) → cond out 8 rest ≡ 0 → (out ≡ false) × (rest ≡ 0)
+inside out rest e = past-if out 8 rest e (λ z. omega arith)
 
 two : (a b : Bool) → (a && b) ≡ true → (a ≡ true) × (b ≡ true)
 two a b = and-eq-true-iff a b .0
@@ -69,8 +48,8 @@ early-open z Closing start now e = absurd (false≢true (sym (late (phaseAfter z
 -- a message that needs an open station; `own` is what it needs besides
 sending : (stage : Stage) (own last : ℕ) → sendingRefusal stage own last ≡ 0 → (stage .out ≡ false) × (stage .early ≡ true) × (own ≡ 0)
 sending stage own last e =
-    let o = in-8 (stage .out) _ e in
-    let f = in-9 (stage .early) _ (o .1) in
+    let o = inside (stage .out) _ e in
+    let f = past-unless (stage .early) _ 9 (o .1) (λ z. omega arith) in
     (o .0, f .0, or-zero own (numberRefusal last) (f .1) .0)
 
 abbrev pub isHello : Request → Bool
@@ -83,7 +62,7 @@ isHello (Keep p) = false
 -- a hello is sent out, all else open
 pub sent-by : (x : Station) (q : Request) → forbids x (Send q) ≡ 0 → x .standing ≡ cond (isHello q) Out Open
 unfolding sendRefusal
-sent-by x Hello e = by-standing (x .standing) (in-9 (isOut (x .standing)) _ e .0)
+sent-by x Hello e = by-standing (x .standing) (past-unless (isOut (x .standing)) _ 9 e (λ z. omega arith) .0)
   where
     by-standing : (σ : Standing) → isOut σ ≡ true → σ ≡ Out
     by-standing Out h = refl
@@ -100,29 +79,37 @@ module _ (x : Station) (p : ℕ) where
   -- a release: nothing is started, nothing unwritten
   pub release-shows : forbids x (Send (Release p)) ≡ 0 → (ltb 0 (startedOf x p) ≡ false) × (unwrittenOf x p ≡ false)
   unfolding sendRefusal
-  release-shows e = neither _ _ (in-12 _ (sending (stageOf x) (releaseRefusal (holdAt x p)) (x .last) e .2))
+  release-shows e =
+      let own = sending (stageOf x) (releaseRefusal (holdAt x p)) (x .last) e .2 in
+      neither _ _ (past-if (ltb 0 (startedOf x p) || unwrittenOf x p) 12 0 own (λ z. omega arith) .0)
 
   -- operations: the station is not out, and the held mode allows it
   pub begin-shows : (m : ℕ) → beginRefusal (stageOf x) (holdAt x p) m ≡ 0
       → (isOut (x .standing) ≡ false) × (covers (modeOf x p) m ≡ true)
   unfolding beginRefusal
   begin-shows m e =
-      let o = in-8 (isOut (x .standing)) _ e in
-      (o .0, in-10 (covers (modeOf x p) m) _ (in-9 (stageOf x .early) _ (o .1) .1) .0)
+      let o = inside (isOut (x .standing)) _ e in
+      let early = past-unless (stageOf x .early) _ 9 (o .1) (λ z. omega arith) in
+      (o .0, past-unless (covers (modeOf x p) m) _ 10 (early .1) (λ z. omega arith) .0)
 
   pub edit-shows : forbids x (Edit p) ≡ 0 → (isOut (x .standing) ≡ false) × (writes (modeOf x p) ≡ true)
   unfolding editRefusal
   edit-shows e =
-      let o = in-8 (isOut (x .standing)) _ e in
-      (o .0, in-10 (writes (modeOf x p)) _ (in-9 (stageOf x .«not_late») _ (o .1) .1) .0)
+      let o = inside (isOut (x .standing)) _ e in
+      let not-late = past-unless (stageOf x .«not_late») _ 9 (o .1) (λ z. omega arith) in
+      (o .0, past-unless (writes (modeOf x p)) _ 10 (not-late .1) (λ z. omega arith) .0)
 
   pub end-shows : forbids x (End p) ≡ 0 → (isOut (x .standing) ≡ false) × (ltb 0 (startedOf x p) ≡ true)
   unfolding endRefusal
-  end-shows e = let o = in-8 (isOut (x .standing)) _ e in (o .0, in-11 _ (o .1))
+  end-shows e =
+      let o = inside (isOut (x .standing)) _ e in
+      (o .0, past-unless (ltb 0 (startedOf x p)) 0 11 (o .1) (λ z. omega arith) .0)
 
   pub write-shows : forbids x (WriteOut p) ≡ 0 → (isOut (x .standing) ≡ false) × (writes (modeOf x p) ≡ true)
   unfolding writeOutRefusal
-  write-shows e = let o = in-8 (isOut (x .standing)) _ e in (o .0, in-10 (writes (modeOf x p)) _ (o .1) .0)
+  write-shows e =
+      let o = inside (isOut (x .standing)) _ e in
+      (o .0, past-unless (writes (modeOf x p)) 0 10 (o .1) (λ z. omega arith) .0)
 
 -- an ACK: it is of the waiting message, fits it, and that message is younger than a lease
 pub record Fitting (w : Waiting) (lease now last k held : ℕ) (a : Ack) : Type 0 where
@@ -137,7 +124,8 @@ fitting : (w : Waiting) (lease now last k held : ℕ) (a : Ack) → ackForbids w
 unfolding ackForbids
 fitting Nothing lease now last k held a e = absurd (omega arith)
 fitting (Sent q t) lease now last k held a e =
-    let g = two (eqb k last && fits q held a) (not (passed t lease now)) (in-14 _ e) in
+    let fine = past-unless (eqb k last && fits q held a && not (passed t lease now)) 0 14 e (λ z. omega arith) .0 in
+    let g = two (eqb k last && fits q held a) (not (passed t lease now)) fine in
     let f = two (eqb k last) (fits q held a) (g .0) in
     record {
       request = q;
@@ -169,4 +157,4 @@ nack-shows x i k d e = by-waiting (x .waiting) e
   where
     by-waiting : (w : Waiting) → nackForbids w (x .last) k ≡ 0 → k ≡ x .last
     by-waiting Nothing e = absurd (omega arith)
-    by-waiting (Sent q t) e = eqb-true k (x .last) (in-14 _ e)
+    by-waiting (Sent q t) e = eqb-true k (x .last) (past-unless (eqb k (x .last)) 0 14 e (λ z. omega arith) .0)

@@ -1,20 +1,19 @@
 -- What holds of every station that can be reached, from a new one by any events at any readings.
 -- Assumes nothing.
 use mathlib.Core.Path.{_≡_, refl, sym, ap, subst, _∙_}
-use mathlib.Core.Bool.{Bool, true, false, cond, _&&_, _||_, not, false≢true}
+use mathlib.Core.Bool.{Bool, true, false, cond, _&&_, not, false≢true}
 use mathlib.Core.Logic.{_⊎_, inl, inr}
-use mathlib.Core.List.{[], _∷_}
 use Prim.Native.Nat.{ℕ, _<_, _≤_}
 use native.Mathlib.Omega.{arith}
 use lib.Dec.{eqb, leb}
 use lib.ListN.{length}
 use borrow.Author.Tests.{eqb-true, ltb-true, ltb-false, leb-true}
-use Rattle.modes.specs.Modes.{isMode, among, over, covers, writes}
-use Rattle.modes.proofs.Range.{implied}
-use Rattle.modes.proofs.Laws.{all2, mode-number}
+use Rattle.modes.specs.Modes.{isMode, writes}
+use Rattle.modes.proofs.Laws.{mode-covered, writes-covered}
 use Rattle.timing.specs.Limits.{readingLimit, mostProfiles}
 use Rattle.timing.specs.declared.settings.Settings.{Settings}
 use Rattle.station.specs.Event.{Request, Hello, KeepAlive, Ask, Release, Keep, Waiting, Nothing, Sent, Done, Granted, Wait, InUse, Event, Send, Begin, Edit, End, WriteOut, Restart, Acked, Nacked, Demand, Hold, Standing, Out, Open, Closing}
+use Rattle.requests.proofs.Back.{in-modes}
 use Rattle.room.specs.Hold.{noHold}
 use Rattle.room.specs.Stage.{isOut}
 use Rattle.room.specs.Refusal.{namedRefusal}
@@ -23,26 +22,9 @@ use Rattle.station.specs.Effect.{nacked, sentAt, begun}
 use Rattle.station.specs.Station.{Station, holdAt, modeOf, startedOf, unwrittenOf, newStation, gone, atReading, isOver, expire, isRestart, refusalOf, forbids, after, step}
 use Rattle.station.proofs.Ways.{free}
 use Rattle.station.proofs.Steps.{stepwise}
-use Rattle.station.proofs.Frames.{none-held, none-length, profileFor, holdChange, hold-after, hold-restarted, after-length, ends, lasts}
+use Rattle.station.proofs.Frames.{none-held, none-length, profileFor, holdChange, hold-after, hold-restarted, after-length, nacked-out, ends, lasts}
 use Rattle.station.proofs.Shown.{isHello, sent-by, release-shows, begin-shows, edit-shows, end-shows, write-shows, ack-shows, grant-covers}
-use Rattle.station.proofs.Heard.{heard, heard-profile, named-mode}
-
--- modes under which others are covered
-writes-covered : (a b : ℕ) → covers a b ≡ true → writes b ≡ true → writes a ≡ true
-unfolding covers writes
-writes-covered a b p q =
-    implied _ _
-    (implied _ _
-    (all2 (λ (a b : ℕ). not (over a b) || (not (among b (4 ∷ 5 ∷ 6 ∷ [])) || among a (4 ∷ 5 ∷ 6 ∷ []))) refl a b) p)
-    q
-
-pub mode-covered : (a b : ℕ) → covers a b ≡ true → isMode b ≡ true → isMode a ≡ true
-unfolding covers
-mode-covered a b p q =
-    mode-number a
-    ∙ implied _ _
-    (implied _ _ (all2 (λ (a b : ℕ). not (over a b) || (not (not (eqb b 0)) || not (eqb a 0))) refl a b) p)
-    (sym (mode-number b) ∙ q)
+use Rattle.station.proofs.Heard.{heard, heard-profile}
 
 -- a hold: unwritten only under a writing mode, started only under a mode, and no number above X
 pub record GoodHold (h : Hold) : Type 0 where
@@ -78,7 +60,7 @@ good-changed x (Send (Keep p)) n a f g = g
 good-changed x (Begin p m) n a f g =
     record {
       unwritten = g .unwritten;
-      started = λ l. mode-covered (modeOf x p) (m .0) (begin-shows x p (m .0) f .1) (named-mode n p (isMode (m .0)) a);
+      started = λ l. mode-covered (modeOf x p) (m .0) (begin-shows x p (m .0) f .1) (in-modes n p (isMode (m .0)) a);
       known = g .known;
     }
 good-changed x (Edit p) n a f g =
@@ -92,7 +74,7 @@ good-changed x (Acked i k Done) n a f g = g
 good-changed x (Acked i k (Granted p m)) n a f g =
     let t = ack-shows x i k (Granted p m) f in
     let c = grant-covers (t .request) (modeOf x p) p m (t .suits) in
-    let o = named-mode n p (isMode (m .0)) a in
+    let o = in-modes n p (isMode (m .0)) a in
     record {
       unwritten = λ e. writes-covered (m .0) (modeOf x p) c (g .unwritten e);
       started = λ l. o;
@@ -166,11 +148,6 @@ nothing-waits Out = refl
 nothing-waits Open = refl
 nothing-waits Closing = refl
 
-nacked-out : (σ : Standing) → isOut (nacked σ) ≡ true → isOut σ ≡ true
-nacked-out Out e = refl
-nacked-out Open e = absurd (false≢true e)
-nacked-out Closing e = absurd (false≢true e)
-
 posed-after : (x : Station) (e : Event) → forbids x e ≡ 0 → PosedAt x → PosedAt (after x e)
 unfolding after
 posed-after x (Send q) f g =
@@ -200,7 +177,7 @@ posed-after x (Acked i k a) f g =
     }
 posed-after x (Nacked i k d) f g =
     record {
-      unstarted = λ e. g .unstarted (nacked-out (x .standing) e);
+      unstarted = λ e. g .unstarted (sym (nacked-out (x .standing)) ∙ e);
       fits = nothing-waits (nacked (x .standing));
       sent = omega arith;
       begun = g .begun;
@@ -230,7 +207,7 @@ empty-after x (End p) f g = λ o. in-out (isOut (x .standing)) (end-shows x p f 
 empty-after x (WriteOut p) f g = λ o. in-out (isOut (x .standing)) (write-shows x p f .0) o
 empty-after x Restart f g = λ o p. none-held p
 empty-after x (Acked i k a) f g = λ o. absurd (false≢true o)
-empty-after x (Nacked i k d) f g = λ o. g (nacked-out (x .standing) o)
+empty-after x (Nacked i k d) f g = λ o. g (sym (nacked-out (x .standing)) ∙ o)
 empty-after x (Demand i p m) f g = g
 
 pub record Sound (s : Station) : Type 0 where

@@ -7,7 +7,7 @@ use lib.Dec.{leb}
 use borrow.Author.Tests.{lt-leb, le-ltb, lt-ltb, leb-false}
 use Rattle.modes.specs.Modes.{isMode, covers, writes}
 use Rattle.modes.specs.declared.Mode.{Mode}
-use Rattle.modes.proofs.Laws.{writes-mode}
+use Rattle.modes.proofs.Laws.{writes-mode, mode-covered}
 use Rattle.timing.specs.Limits.{readingLimit}
 use Rattle.timing.specs.Settings.{inRange}
 use Rattle.station.specs.Event.{Event, Begin, Edit, WriteOut}
@@ -15,6 +15,7 @@ use Rattle.room.specs.Stage.{isOut}
 use Rattle.timing.specs.Reading.{passed}
 use Rattle.timing.specs.Reading.{orElse, readingRefusal}
 use Rattle.requests.specs.Request.{profileRefusal}
+use Rattle.requests.proofs.Back.{in-modes}
 use Rattle.room.specs.Refusal.{ownRefusal, useRefusal}
 use Rattle.station.specs.Station.{Station, modeOf, leaseOf, atReading, isOver, expire, step, ifUse, mayUse}
 use Rattle.station.specs.declared.event.UseAnswer.the-variants as use'
@@ -22,8 +23,7 @@ use Rattle.timing.proofs.Choice.{both}
 use Rattle.station.proofs.Steps.{isGood, good-done}
 use Rattle.station.proofs.Frames.{ends, lasts}
 use Rattle.station.proofs.Shown.{begin-shows, edit-shows, write-shows}
-use Rattle.station.proofs.Heard.{Heard, heard, heard-profile, named-mode}
-use Rattle.station.proofs.Sound.{mode-covered}
+use Rattle.station.proofs.Heard.{Heard, heard, heard-profile}
 
 -- a station that is not out after its reading was taken has its lease and its modes
 pub record Leased (s : Station) (now : ℕ) : Type 0 where
@@ -78,7 +78,7 @@ module _ (s : Station) (now p : ℕ) where
       let b = begin-shows (expire s now) p (m .0) (d .1) in
       let k = leased s now (b .0) in
       let c : covers (modeOf s p) (m .0) ≡ true = sym (ap (λ (n : ℕ). covers n (m .0)) (mode-kept k)) ∙ b .1 in
-      let o = named-mode (s .settings .profiles) p (isMode (m .0)) (h .named) in
+      let o = in-modes (s .settings .profiles) p (isMode (m .0)) (h .named) in
       (may-use s now p (Begin p m) h (heard-profile s now (Begin p m) h .0) k (mode-covered (modeOf s p) (m .0) c o), c)
 
   by-writing : (e : Event) → Heard s now e → p < s .settings .profiles → isOut (expire s now .standing) ≡ false

@@ -28,19 +28,20 @@ use Rattle.station.specs.Station.{Station, Stepped, leaseOf, isOver, end
 use Rattle.station.specs.declared.event.Answer.the-variants as answer
 use Rattle.station.specs.declared.event.PhaseAnswer.the-variants as phase
 use Rattle.station.specs.declared.event.UseAnswer.the-variants as use'
-use Rattle.timing.proofs.Choice.{both, below-not, allows, passes, inside, or-zero}
+use Rattle.timing.proofs.Choice.{both, below-not, past-if, past-unless, or-zero}
 
 number-free : (last : ℕ) → numberRefusal last ≡ 0 → ltb last lastNumber ≡ true
-number-free last e = allows (ltb last lastNumber) 0 13 e (λ z. omega arith)
+number-free last e = past-unless (ltb last lastNumber) 0 13 e (λ z. omega arith) .0
 
 -- where nothing forbids an event, what it counts has room
 sending-free : (stage : Stage) (own last : ℕ) → sendingRefusal stage own last ≡ 0 → ltb last lastNumber ≡ true
 sending-free stage own last e =
-    number-free last (or-zero own _ (inside (stage .early) _ 9 (passes (stage .out) 8 _ e (λ z. omega arith)) (λ z. omega arith)) .1)
+    let rest = past-if (stage .out) 8 _ e (λ z. omega arith) .1 in
+    number-free last (or-zero own _ (past-unless (stage .early) _ 9 rest (λ z. omega arith) .1) .1)
 
 send-free : (stage : Stage) (h : Hold) (last : ℕ) (q : Request) → sendRefusal stage h last q ≡ 0 → ltb last lastNumber ≡ true
 unfolding sendRefusal
-send-free stage h last Hello e = number-free last (inside (stage .out) _ 9 e (λ z. omega arith))
+send-free stage h last Hello e = number-free last (past-unless (stage .out) _ 9 e (λ z. omega arith) .1)
 send-free stage h last KeepAlive e = sending-free stage 0 last e
 send-free stage h last (Ask p m) e = sending-free stage 0 last e
 send-free stage h last (Release p) e = sending-free stage (releaseRefusal h) last e
@@ -49,13 +50,13 @@ send-free stage h last (Keep p) e = sending-free stage (startedRefusal h) last e
 begin-free : (stage : Stage) (h : Hold) (m : ℕ) → beginRefusal stage h m ≡ 0 → ltb (h .started) 255 ≡ true
 unfolding beginRefusal
 begin-free stage h m e =
-    allows (ltb (h .started) 255) 0 11
-    (inside (covers (h .mode .0) m) _ 10 (inside (stage .early) _ 9 (passes (stage .out) 8 _ e (λ z. omega arith)) (λ z. omega arith)) (λ z. omega arith))
-    (λ z. omega arith)
+    let out = past-if (stage .out) 8 _ e (λ z. omega arith) .1 in
+    let early = past-unless (stage .early) _ 9 out (λ z. omega arith) .1 in
+    past-unless (ltb (h .started) 255) 0 11 (past-unless (covers (h .mode .0) m) _ 10 early (λ z. omega arith) .1) (λ z. omega arith) .0
 
 end-free : (stage : Stage) (h : Hold) → endRefusal stage h ≡ 0 → ltb 0 (h .started) ≡ true
 unfolding endRefusal
-end-free stage h e = allows (ltb 0 (h .started)) 0 11 (passes (stage .out) 8 _ e (λ z. omega arith)) (λ z. omega arith)
+end-free stage h e = past-unless (ltb 0 (h .started)) 0 11 (past-if (stage .out) 8 _ e (λ z. omega arith) .1) (λ z. omega arith) .0
 
 pub free : (x : Station) (e : Event) → forbids x e ≡ 0 → (numberFree (x .last) e ≡ true) × (countFree (x .holds) e ≡ true)
 free x (Send q) e = (send-free _ _ _ q e, refl)
@@ -95,7 +96,7 @@ module _ (x : Station) (e : Event) (lost n r : ℕ) (d : r ≡ forbids x e) wher
 
 -- settings are in range where 1 does not apply
 own-good : (z : Settings) (own : ℕ) → ownRefusal z own ≡ 0 → inRange z ≡ true
-own-good z own e = allows (inRange z) _ 1 e (λ z. omega arith)
+own-good z own e = past-unless (inRange z) _ 1 e (λ z. omega arith) .0
 
 pub good-settings : (z : Settings) (own last now : ℕ) (e : Event) → refusal z own last now e ≡ 0 → inRange z ≡ true
 unfolding refusal

@@ -29,29 +29,20 @@ pub or-zero : (n m : ℕ) → orElse n m ≡ 0 → (n ≡ 0) × (m ≡ 0)
 or-zero zero m e = (refl, e)
 or-zero (suc n) m e = absurd (omega arith)
 
--- a number chosen by a test is 0: what that tells of the test, and of the other number
-pub fails : (t : Bool) (a b : ℕ) → cond t a b ≡ 0 → (a ≡ 0 → ⊥) → t ≡ false
-fails true a b e h = absurd (h e)
-fails false a b e h = refl
+-- past a refusal n that applies if a test holds, or unless it does: what that tells of the test, and of the rest
+pub past-if : (t : Bool) (n rest : ℕ) → cond t n rest ≡ 0 → (n ≡ 0 → ⊥) → (t ≡ false) × (rest ≡ 0)
+past-if true n rest e h = absurd (h e)
+past-if false n rest e h = (refl, e)
 
-pub passes : (t : Bool) (a b : ℕ) → cond t a b ≡ 0 → (a ≡ 0 → ⊥) → b ≡ 0
-passes true a b e h = absurd (h e)
-passes false a b e h = e
-
-pub allows : (t : Bool) (a b : ℕ) → cond t a b ≡ 0 → (b ≡ 0 → ⊥) → t ≡ true
-allows true a b e h = refl
-allows false a b e h = absurd (h e)
-
-pub inside : (t : Bool) (a b : ℕ) → cond t a b ≡ 0 → (b ≡ 0 → ⊥) → a ≡ 0
-inside true a b e h = e
-inside false a b e h = absurd (h e)
+pub past-unless : (t : Bool) (rest n : ℕ) → cond t rest n ≡ 0 → (n ≡ 0 → ⊥) → (t ≡ true) × (rest ≡ 0)
+past-unless true rest n e h = (refl, e)
+past-unless false rest n e h = absurd (h e)
 
 pub reading-good : (last now : ℕ) → readingRefusal last now ≡ 0 → (now ≤ readingLimit) × (last ≤ now)
 reading-good last now e =
-    let below = passes (ltb readingLimit now) 5 (cond (ltb now last) 6 0) e (λ z. omega arith) in (
-      ltb-false readingLimit now (fails (ltb readingLimit now) 5 _ e (λ z. omega arith)),
-      ltb-false now last (fails (ltb now last) 6 0 below (λ z. omega arith)),
-    )
+    let limit = past-if (ltb readingLimit now) 5 (cond (ltb now last) 6 0) e (λ z. omega arith) in
+    let back = past-if (ltb now last) 6 0 (limit .1) (λ z. omega arith) in
+    (ltb-false readingLimit now (limit .0), ltb-false now last (back .0))
 
 -- a time that began by now, by the ticks since
 pub ahead : (since ticks now : ℕ) → since ≤ now → leb ticks (now - since) ≡ passed since ticks now
