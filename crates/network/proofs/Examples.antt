@@ -1,6 +1,6 @@
 -- The examples, computed.
 use mathlib.Core.Path.{_≡_, refl, sym, subst}
-use mathlib.Core.List.{List, [], _∷_, _++_, List·Memᴰ, List·Memᴰ·cases-cons, List·Memᴰ·not-nil, List·Memᴰ·head, List·Memᴰ·tail}
+use mathlib.Core.List.{List, [], _∷_, List·Memᴰ, List·Memᴰ·cases-cons, List·Memᴰ·not-nil, List·Memᴰ·head, List·Memᴰ·tail}
 use mathlib.Core.Logic.{_⊎_, inl, inr}
 use Prim.Native.Nat.{ℕ, _≤_}
 use lib.Dec.{lit<, lit≤}
@@ -16,15 +16,8 @@ use Rattle.server.specs.Refusal as server-refusal
 use Rattle.server.specs.Step as server
 use Rattle.server.specs.Border as server-border
 use Rattle.server.specs.Border.{sentFor}
-use Rattle.server.specs.Step.{step as serverStep}
-use Rattle.server.specs.declared.event.Event.the-variants as server-event
 use Rattle.requests.specs.Request as requests
-use Rattle.server.specs.declared.event.Answer.{Answer}
-use Rattle.server.specs.declared.event.Answer.the-variants as says
-use Rattle.record.specs.declared.message.Message.{Message}
-use Rattle.modes.specs.Modes.{mode, R}
-use Rattle.requests.specs.declared.Request.the-variants.{Ask}
-use Rattle.room.specs.declared.event.Event.the-variants.{Send}
+use Rattle.modes.specs.Modes.{R}
 use Rattle.room.specs.Hold.{noHolds}
 use Rattle.room.specs.Stage.{phaseAt}
 use Rattle.room.specs.Refusal as room-refusal
@@ -33,10 +26,10 @@ use Rattle.station.specs.Effect as effect
 use Rattle.station.specs.Station as room
 use Rattle.station.specs.Border as room-border
 use Rattle.modes.specs.Modes as modes
-use Rattle.network.specs.Picture.{Happening, gets, does, Moment, worldAtFirst, next, run}
+use Rattle.network.specs.Picture.{Happening, gets, Moment, worldAtFirst, next, run}
 use Rattle.network.specs.Premises.{Happens, Permitted, begins, goes-on}
 use Rattle.network.proofs.Together.{Together, at-together, later, together}
-use Rattle.network.specs.Examples.{small, at, after, waits, demand, greeted, holding, renewed, Renewed, demanded, released, passed-on, PassedOn, timing-out, taken-over, TakenOver, closing, written, Written}
+use Rattle.network.specs.Examples.{small, at, after, demand, greeted, holding, renewed, Renewed, demanded, released, passed-on, PassedOn, timing-out, taken-over, TakenOver, closing, written, Written}
 
 -- names all that a step computes with, so that one word opens it
 engines : ℕ

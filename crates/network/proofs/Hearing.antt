@@ -35,9 +35,8 @@ use Rattle.server.specs.Sets.{only, wiped, liveSet, isKept, marksWith}
 use Rattle.server.specs.Ask.{wantedBy, inTheWay, keptOrWait, freeOrNot, askRule}
 use Rattle.server.specs.Hear.{answered, greeted, ruledFor, numbered, heed, welcome, byStatus, ifNew, hear}
 use Rattle.server.specs.Refusal.{refusal}
-use Rattle.requests.specs.Request.{profileOf}
+use Rattle.requests.specs.Request.{profileOf, askedAs, requestOf}
 use Rattle.server.specs.Step.{afterHeard, message, ifGood, step}
-use Rattle.requests.specs.Request.{askedAs, requestOf}
 use Rattle.server.specs.Border.{sentFor, meantBy, eventOf}
 use Rattle.server.proofs.Frames.{entry, only-same, only-other, mode-wiped, width-wiped, entry-wiped, whole-wiped, entry-set-same, entry-set-other, whole-set, nobody-clashes}
 use Rattle.server.proofs.Refusals.{station-below, profile-below}

@@ -51,16 +51,16 @@ use Rattle.station.specs.declared.event.Answer.the-variants as answer
 use Rattle.station.specs.declared.event.UseAnswer.the-variants.{Yes}
 use Rattle.station.specs.declared.border.Meant.the-variants as to-room
 use Rattle.room.specs.Hold.{noHold, noHolds}
-use Rattle.requests.specs.Request.{requestRefusal}
+use Rattle.requests.specs.Request.{requestRefusal, messageOf}
 use Rattle.room.specs.Refusal.{ackRefusal}
 use Rattle.room.specs.Rules.{lastNumber, sendRefusal, fits, ackProfile, ackForbids}
 use Rattle.station.specs.Effect.{holdsSent, holdsAcked}
 use Rattle.station.specs.Station.{newStation, isOver, forbids, after, stepped, step as roomStep, mayUse, modeOf}
-use Rattle.requests.specs.Request.{messageOf}
 use Rattle.station.specs.Border.{sentBy, eventOf as roomEvent}
 use Rattle.network.specs.Picture.{worldAtFirst, Moment, Happening, nothing, run}
 use Rattle.network.specs.Premises.{Clocks, begins}
 use Rattle.network.specs.Claims.{Breach, OneTickLess}
+use Rattle.station.proofs.Uses.{use-free, may-use}
 use Rattle.network.proofs.RoomLaws as room
 use Rattle.network.proofs.ServerLaws as served
 use Rattle.network.proofs.Together.{Together, at-together, later, level, together}
@@ -509,7 +509,7 @@ module _ (z : Settings) (good : inRange z ≡ true) (two : 2 ≤ z .stations) (w
     uses : (i c start k now : ℕ) → i < z .stations → now ≤ readingLimit → c ≤ now → now < start + lease z → mayUse (rm i c Open start k Nothing X) now 0 ≡ Yes
     unfolding isMode
     uses i c start k now here t on b =
-        room.may-use (rm i c Open start k Nothing X) now 0 (room.use-free z good i c now 0 here any₀ t on) (rw (lt-ltb now (start + lease z) b))
+        may-use (rm i c Open start k Nothing X) now 0 (use-free z good i c now 0 here any₀ t on) refl b
 
     clash : goesWith X X ≡ false
     unfolding goesWith

@@ -11,13 +11,12 @@ use Rattle.timing.specs.Settings.{inRange, lease}
 use Rattle.timing.specs.Phase.{edge1, edge2, phaseAfter}
 use Rattle.timing.proofs.Phases.{in-first, in-second}
 use Rattle.room.specs.declared.event.Event.{Event}
-use Rattle.station.specs.declared.event.UseAnswer.the-variants as use'
 use Rattle.station.specs.declared.station.Station.{Station}
 use Rattle.room.specs.declared.stage.Standing.the-variants.{Open}
 use Rattle.room.specs.Stage.{early, phaseAt, openPhase, isOut}
-use Rattle.room.specs.Refusal.{stationOf, namedRefusal, refusal, useRefusal}
+use Rattle.room.specs.Refusal.{stationOf, namedRefusal, refusal}
 use Rattle.station.specs.Effect.{lastAfter, answerTo}
-use Rattle.station.specs.Station.{isOver, atReading, gone, forbids, after, stepped, judged, endedIf, isRestart, lost, lostIf, ifGood, ifAllowed, step, usable, mayUse}
+use Rattle.station.specs.Station.{isOver, atReading, gone, forbids, after, stepped, judged, endedIf, isRestart, lost, lostIf, ifGood, ifAllowed, step}
 
 module _ (s : Station) (now : ℕ) (e : Event) where
   step-good : refusal (s .settings) (s .number) (s .reading) now e ≡ 0 →
@@ -50,11 +49,6 @@ module _ (z : Settings) (good : inRange z ≡ true) where
   free own last now e here mine named top on =
       rw (good, lt-leb (z .stations) own here, eq-eqb (stationOf own e) own mine, named, le-ltb readingLimit now top, le-ltb now last on)
 
-  pub use-free : (own last now p : ℕ) → own < z .stations → p < z .profiles → now ≤ readingLimit → last ≤ now → useRefusal z own last now p ≡ 0
-  unfolding useRefusal
-  use-free own last now p here named top on =
-      rw (good, lt-leb (z .stations) own here, lt-leb (z .profiles) p named, le-ltb readingLimit now top, le-ltb now last on)
-
   -- a lease that has not run its length
   pub runs : (s : Station) (now : ℕ) → now < s .start + lease (s .settings) → isOver s now ≡ false
   runs s now b = ap (λ (t : Bool). not (isOut (s .standing)) && t) (lt-leb (s .start + lease (s .settings)) now b) ∙ never (not (isOut (s .standing)))
@@ -71,7 +65,3 @@ module _ (z : Settings) (good : inRange z ≡ true) where
       by-test : (t : Bool) → ltb (now - start) (edge1 z) ≡ t → early (openPhase (phaseAfter z (now - start))) ≡ true
       by-test true q = rw (in-first z (now - start) (ltb-true (now - start) (edge1 z) q))
       by-test false q = rw (in-second z (now - start) (ltb-false (now - start) (edge1 z) q) b)
-
-pub may-use : (s : Station) (now p : ℕ) → useRefusal (s .settings) (s .number) (s .reading) now p ≡ 0 → usable s now p ≡ true → mayUse s now p ≡ use'.Yes
-unfolding mayUse
-may-use s now p f y = rw (f, y)

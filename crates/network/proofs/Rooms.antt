@@ -8,20 +8,17 @@ use Prim.Native.Nat.{ℕ, zero, suc, _+_, _<_, zero-le}
 use native.Mathlib.Nat.{le-refl}
 use native.Mathlib.Omega.{arith}
 use lib.Dec.{eqb}
-use lib.ListN.{length, getD, length-set}
-use borrow.Author.Tests.{eq-eqb, ne-eqb}
+use lib.ListN.{length}
+use borrow.Author.Tests.{eqb-true, eq-eqb, ne-eqb}
 use Rattle.record.specs.declared.message.Message.{Message}
 use Rattle.modes.specs.Modes.{mode, covers}
-use Rattle.modes.specs.declared.Mode.{Mode}
 use Rattle.modes.proofs.Laws.{covers-self}
 use Rattle.timing.specs.declared.settings.Settings.{Settings}
-use Rattle.timing.specs.Settings.{lease, inRange}
-use Rattle.timing.proofs.Ranges.{ranges}
+use Rattle.timing.specs.Settings.{lease}
 use Rattle.station.specs.declared.station.Station.{Station}
 use Rattle.station.specs.declared.station.Stepped.{Stepped}
 use Rattle.room.specs.declared.hold.Hold.{Hold}
 use Rattle.requests.specs.declared.Request.{Request}
-use Rattle.requests.specs.declared.Request.the-variants.{Hello}
 use Rattle.room.specs.declared.event.Waiting.{Waiting}
 use Rattle.room.specs.declared.event.Waiting.the-variants.{Sent}
 use Rattle.room.specs.declared.event.Ack.{Ack}
@@ -29,15 +26,18 @@ use Rattle.room.specs.declared.event.Ack.the-variants.{Done, Granted, Wait, InU
 use Rattle.room.specs.declared.event.Event.{Event}
 use Rattle.room.specs.declared.event.Event.the-variants.{Send, Begin, Edit, End, WriteOut, Restart, Ack as Acked, Nack as Nacked, Demand}
 use Rattle.station.specs.declared.event.Answer.the-variants as answer
+use Rattle.room.specs.declared.stage.Standing.the-variants.{Out, Open}
 use Rattle.room.specs.Stage.{isOut}
-use Rattle.room.specs.Hold.{noHold, changed, withUnwritten}
-use Rattle.room.specs.Refusal.{refusal, ackRefusal, namedRefusal, stationOf}
+use Rattle.room.specs.Refusal.{refusal, stationOf}
 use Rattle.room.specs.Rules.{ackProfile}
-use Rattle.station.specs.Effect.{sentAt, holdsAcked, begun, ended, holdsAfter, lastAfter, answerTo}
-use Rattle.station.specs.Station.{modeOf, holdAt, stageOf, leaseOf, gone, isOver, endedIf, expire, forbids, after, ifAllowed, ifGood, step}
-use Rattle.requests.specs.Request.{messageOf}
+use Rattle.station.specs.Effect.{sentAt, lastAfter, answerTo}
+use Rattle.station.specs.Station.{modeOf, leaseOf, gone, isOver, endedIf, expire, forbids, after, ifAllowed, ifGood, step}
+use Rattle.requests.specs.Request.{profileOf, messageOf}
 use Rattle.station.specs.Border.{sentBy, ackAs, meantAs, eventOf}
-use Rattle.station.proofs.Seat.{modeIn, no-modes, no-holds-length, modes-kept, sent-modes, sent-length, acked-length, acked-modes, nacked-out, message-number, is-hello, given-up, sent-station, hello-out, Answers, answers, good-station, good-named, granted-in}
+use Rattle.station.proofs.Frames.{none-held, none-length, profileFor, modeAfter, mode-after, after-length, nacked-out}
+use Rattle.station.proofs.Shown.{isHello, sent-by, Fitting, ack-shows}
+use Rattle.station.proofs.Heard.{heard, heard-profile}
+use Rattle.station.proofs.Sent.{sent-station, message-number, is-hello, sent-modes, given-up}
 use Rattle.network.specs.Picture.{World, Moment, withRoom, getting}
 use Rattle.network.specs.Premises.{isOwn}
 use Rattle.network.proofs.Pair.{Covered, Fits, Inv, later, left, dropped, posted, acked}
@@ -62,7 +62,21 @@ Came l (Acked i k a) = (m : Message) × List·Memᴰ m l × (m .station ≡ i) �
 Came l (Nacked i k d) = Unit {0}
 Came l (Demand i p m) = Unit {0}
 
-module _ (z : Settings) (good : inRange z ≡ true) (w : World) (h : List Moment) (cs : ℕ → ℕ) (I : Sound z w h cs) (i : ℕ) (here : i < z .stations) where
+-- what a room holds after an ACK of a message that grants what the server has, the server's modes cover
+granted : (S : ℕ → ℕ) (x : Station) (j k : ℕ) (m : Message) → Covered S (λ p. modeOf x p) → Fits m S →
+    (a : Ack) → Says m a → (p : ℕ) → covers (S p) (modeAfter x (Acked j k a) p) ≡ true
+granted S x j k m old fit Done says p = old p
+granted S x j k m old fit (Granted r n) says p = by-test (eqb p r) refl
+  where
+    by-test : (t : Bool) → eqb p r ≡ t → covers (S p) (cond t (n .0) (modeOf x p)) ≡ true
+    by-test true e =
+        let has : S p ≡ n .0 = ap S (eqb-true p r e ∙ sym (says .1)) ∙ fit (says .0) ∙ says .2 in
+        ap (λ (k : ℕ). covers k (n .0)) has ∙ covers-self (n .0)
+    by-test false e = old p
+granted S x j k m old fit (Wait r) says p = old p
+granted S x j k m old fit (InUse r) says p = old p
+
+module _ (z : Settings) (w : World) (h : List Moment) (cs : ℕ → ℕ) (I : Sound z w h cs) (i : ℕ) (here : i < z .stations) where
   -- what is to be shown of room i
   pub record Fit (r : Station) (U : List Message) : Type 0 where
     pub inv : Inv (lease z) (slotOf (w .server) i) (seatOf r) (sentUp U i) (ackDown (w .down) i) (past h i) (cs i)
@@ -112,8 +126,8 @@ module _ (z : Settings) (good : inRange z ≡ true) (w : World) (h : List Moment
   -- the lease that has run out ends first; a restart goes out too
   goes : (r : Station) (now : ℕ) → Fit r (w .up) → Fit (gone r now) (w .up)
   goes r now F = record {
-    inv = left (lease z) (F .inv) refl zero-le refl refl (λ p. no-modes p);
-    own = record { settings = F .own .settings; number = F .own .number; holds = no-holds-length };
+    inv = left (lease z) (F .inv) refl zero-le refl refl (λ p. ap (λ (y : Hold). y .mode .0) (none-held p));
+    own = record { settings = F .own .settings; number = F .own .number; holds = none-length };
   }
 
   expired : (r : Station) (now : ℕ) → Fit r (w .up) → (b : Bool) → Fit (endedIf b r now) (w .up) × (endedIf b r now .reading ≡ now)
@@ -122,106 +136,90 @@ module _ (z : Settings) (good : inRange z ≡ true) (w : World) (h : List Moment
   expired r now F false = (record { inv = F .inv; own = record { settings = F .own .settings; number = F .own .number; holds = F .own .holds } }, refl)
 
   module _ (x : Station) (F : Fit x (w .up)) (reads : x .reading ≡ cs i) where
-    own-after : (e : Event) → length (holdsAfter (x .holds) e) ≡ 64 → Own z i (after x e)
+    own-after : (e : Event) → Own z i (after x e)
     unfolding after
-    own-after e n = record { settings = F .own .settings; number = F .own .number; holds = n }
+    own-after e = record { settings = F .own .settings; number = F .own .number; holds = after-length x e (F .own .holds) }
 
     -- Send
-    on-send : (q : Request) → forbids x (Send q) ≡ 0 → Fit (after x (Send q)) (sentBy i (answer.Sent (x .last + 1) q) ++ w .up)
+    on-send : (q : Request) → profileOf q < length (x .holds) → forbids x (Send q) ≡ 0 →
+        Fit (after x (Send q)) (sentBy i (answer.Sent (x .last + 1) q) ++ w .up)
     unfolding after sentBy
-    on-send q e = record {
+    on-send q l e = record {
       inv = posted (lease z) (F .inv) q (messageOf i (x .last + 1) q) refl refl refl (ap (λ (n : ℕ). Sent q n) reads)
-          (λ p. sent-modes q (x .holds) p)
+          (sent-modes x q l)
           (message-number i (x .last + 1) q)
-          (λ k. given-up i (x .last + 1) q (x .holds) k)
-          (λ k. hello-out (stageOf x) (holdAt x 0) (x .last) (hello (is-hello i (x .last + 1) q k)))
+          (given-up x i (x .last + 1) q l)
+          (λ k. ap isOut (sent-by x q e) ∙ ap (λ (r : Request). isOut (cond (isHello r) Out Open)) (is-hello i (x .last + 1) q k))
           (λ m u. by-place m u (List·Memᴰ·cases-cons (u .0)));
-      own = own-after (Send q) (sent-length q (x .holds) ∙ F .own .holds);
+      own = own-after (Send q);
     }
       where
-        hello : q ≡ Hello → forbids x (Send Hello) ≡ 0
-        hello k = ap (λ (r : Request). forbids x (Send r)) (sym k) ∙ e
-
         by-place : (m : Message) → sentUp (messageOf i (x .last + 1) q ∷ w .up) i m → (m ≡ messageOf i (x .last + 1) q) ⊎ List·Memᴰ m (w .up) →
             sentUp (w .up) i m ⊎ (m ≡ messageOf i (x .last + 1) q)
         by-place m u (inl k) = inr k
         by-place m u (inr k) = inl (k, u .1)
 
     -- Ack
-    on-ack : (j k : ℕ) (a : Ack) → j ≡ i → Came (w .down) (Acked j k a) → ackRefusal (z .profiles) a ≡ 0 → forbids x (Acked j k a) ≡ 0 → Fit (after x (Acked j k a)) (w .up)
+    on-ack : (j k : ℕ) (a : Ack) → ackProfile a < length (x .holds) → j ≡ i → Came (w .down) (Acked j k a) → forbids x (Acked j k a) ≡ 0 →
+        Fit (after x (Acked j k a)) (w .up)
     unfolding after
-    on-ack j k a to c named e = record {
+    on-ack j k a l to c e = record {
       inv = acked (lease z) (F .inv) (A .request) (A .sent) (c .0) (A .waits) soon (c .1, c .2 ∙ to, c .3) (c .4 ∙ A .number)
-          refl starts refl refl (λ old fit p. covered old fit p (acked-modes a (x .holds) p));
-      own = own-after (Acked j k a) (acked-length a (x .holds) ∙ F .own .holds);
+          refl (ap (λ (v : Waiting). sentAt v) (A .waits)) refl refl covered;
+      own = own-after (Acked j k a);
     }
       where
-        A : Answers (x .waiting) (leaseOf x) (x .reading) (x .last) k (modeOf x (ackProfile a)) a
-        A = answers (x .waiting) (leaseOf x) (x .reading) (x .last) k (modeOf x (ackProfile a)) a e
+        A : Fitting (x .waiting) (leaseOf x) (x .reading) (x .last) k (modeOf x (ackProfile a)) a
+        A = ack-shows x j k a e
 
         soon : cs i < A .sent + lease z
         soon =
-            let s = A .soon in
+            let s = A .young in
             let l : leaseOf x ≡ lease z = ap (λ (y : Settings). lease y) (F .own .settings) in
             omega (arith, reads)
 
-        starts : after x (Acked j k a) .start ≡ A .sent
-        starts = ap (λ (v : Waiting). sentAt v) (A .waits)
+        S : ℕ → ℕ
+        S = λ p. slotOf (w .server) i .mode p
 
-        covered : Covered (λ p. slotOf (w .server) i .mode p) (λ p. modeOf x p) → Fits (c .0) (slotOf (w .server) i .mode) → (p : ℕ) →
-            (modeIn (holdsAcked (x .holds) a) p ≡ modeIn (x .holds) p) ⊎ ((m : Mode) × (a ≡ Granted p m) × (p < length (x .holds) → modeIn (holdsAcked (x .holds) a) p ≡ m .0)) →
-            covers (slotOf (w .server) i .mode p) (modeIn (holdsAcked (x .holds) a) p) ≡ true
-        covered old fit p (inl q) = ap (λ (n : ℕ). covers (slotOf (w .server) i .mode p) n) q ∙ old p
-        covered old fit p (inr q) =
-            let says : Says (c .0) (Granted p (q .0)) = subst (λ (b : Ack). Says (c .0) b) (q .1) (c .5) in
-            let inside : p < z .profiles = granted-in (z .profiles) p (q .0) (ap (λ (b : Ack). ackRefusal (z .profiles) b) (sym (q .1)) ∙ named) in
-            let most = ranges z good .counts .profiles-most in
-            let held : modeIn (holdsAcked (x .holds) a) p ≡ q .0 .0 = q .2 (omega (arith, F .own .holds)) in
-            let has : slotOf (w .server) i .mode p ≡ q .0 .0 = ap (λ (n : ℕ). slotOf (w .server) i .mode n) (sym (says .1)) ∙ fit (says .0) ∙ says .2 in
-            ap (λ (n : ℕ). covers n (modeIn (holdsAcked (x .holds) a) p)) has ∙ ap (λ (n : ℕ). covers (q .0 .0) n) held ∙ covers-self (q .0 .0)
+        covered : Covered S (λ p. modeOf x p) → Fits (c .0) S → Covered S (λ p. modeOf (after x (Acked j k a)) p)
+        covered old fit p = ap (λ (n : ℕ). covers (S p) n) (mode-after x (Acked j k a) p l) ∙ granted S x j k (c .0) old fit a (c .5) p
 
     on-nack : (j k d : ℕ) → Fit (after x (Nacked j k d)) (w .up)
     unfolding after
     on-nack j k d = record {
       inv = dropped (lease z) (F .inv) (nacked-out (x .standing)) refl refl refl refl;
-      own = own-after (Nacked j k d) (F .own .holds);
+      own = own-after (Nacked j k d);
     }
 
     -- operations and flags change nothing that is seen
-    unseen : (f : Hold → Hold) → ((y : Hold) → f y .mode ≡ y .mode) → (p : ℕ) →
+    unseen : (e : Event) → ((p : ℕ) → modeOf (after x e) p ≡ modeOf x p) →
         Inv (lease z) (slotOf (w .server) i)
-        (record { out = isOut (x .standing); start = x .start; last = x .last; waiting = x .waiting; mode = λ q. modeIn (changed f p (x .holds)) q })
+        (record { out = isOut (x .standing); start = x .start; last = x .last; waiting = x .waiting; mode = λ p. modeOf (after x e) p })
         (sentUp (w .up) i) (ackDown (w .down) i) (past h i) (cs i)
-    unseen f e p =
+    unseen e same =
         subst (λ (g : ℕ → ℕ). Inv (lease z) (slotOf (w .server) i)
         (record { out = isOut (x .standing); start = x .start; last = x .last; waiting = x .waiting; mode = g })
         (sentUp (w .up) i) (ackDown (w .down) i) (past h i) (cs i))
-        (sym same) (F .inv)
-      where
-        same : _≡_ {A = ℕ → ℕ} (λ q. modeIn (changed f p (x .holds)) q) (λ q. modeIn (x .holds) q)
-        same = λ j q. modes-kept f e (x .holds) p q j
+        (sym (λ j p. same p j)) (F .inv)
 
-    wide : (f : Hold → Hold) (p : ℕ) → length (changed f p (x .holds)) ≡ 64
-    wide f p = length-set (x .holds) p (f (getD (x .holds) p noHold)) ∙ F .own .holds
-
-    on-allowed : (e : Event) → Came (w .down) e → namedRefusal (z .profiles) e ≡ 0 → stationOf i e ≡ i → forbids x e ≡ 0 →
+    on-allowed : (e : Event) → Came (w .down) e → profileFor e < length (x .holds) → stationOf i e ≡ i → forbids x e ≡ 0 →
         Fit (after x e) (sentBy i (answerTo (lastAfter (x .last) e) (x .holds) e) ++ w .up)
     unfolding after sentBy
-    on-allowed (Send q) c named to e = on-send q e
-    on-allowed (Begin p m) c named to e = record { inv = unseen begun (λ y. refl) p; own = own-after (Begin p m) (wide begun p) }
-    on-allowed (Edit p) c named to e = record { inv = unseen (withUnwritten true) (λ y. refl) p; own = own-after (Edit p) (wide (withUnwritten true) p) }
-    on-allowed (End p) c named to e = record { inv = unseen ended (λ y. refl) p; own = own-after (End p) (wide ended p) }
-    on-allowed (WriteOut p) c named to e = record { inv = unseen (withUnwritten false) (λ y. refl) p; own = own-after (WriteOut p) (wide (withUnwritten false) p) }
-    on-allowed Restart c named to e = goes x (x .reading) F
-    on-allowed (Acked j k a) c named to e = on-ack j k a to c named e
-    on-allowed (Nacked j k d) c named to e = on-nack j k d
-    on-allowed (Demand j p m) c named to e = record { inv = F .inv; own = own-after (Demand j p m) (F .own .holds) }
+    on-allowed (Send q) c l to e = on-send q l e
+    on-allowed (Begin p m) c l to e = record { inv = unseen (Begin p m) (λ r. mode-after x (Begin p m) r l); own = own-after (Begin p m) }
+    on-allowed (Edit p) c l to e = record { inv = unseen (Edit p) (λ r. mode-after x (Edit p) r l); own = own-after (Edit p) }
+    on-allowed (End p) c l to e = record { inv = unseen (End p) (λ r. mode-after x (End p) r l); own = own-after (End p) }
+    on-allowed (WriteOut p) c l to e = record { inv = unseen (WriteOut p) (λ r. mode-after x (WriteOut p) r l); own = own-after (WriteOut p) }
+    on-allowed Restart c l to e = goes x (x .reading) F
+    on-allowed (Acked j k a) c l to e = on-ack j k a l to c e
+    on-allowed (Nacked j k d) c l to e = on-nack j k d
+    on-allowed (Demand j p m) c l to e = record { inv = F .inv; own = own-after (Demand j p m) }
 
-    on-forbidden : (e : Event) → Came (w .down) e → namedRefusal (z .profiles) e ≡ 0 → stationOf i e ≡ i → (n : ℕ) → forbids x e ≡ n → (lost count : ℕ) →
+    on-forbidden : (e : Event) → Came (w .down) e → profileFor e < length (x .holds) → stationOf i e ≡ i → (n : ℕ) → forbids x e ≡ n → (lost count : ℕ) →
         Fit (ifAllowed n x e lost count .station) (sentBy i (ifAllowed n x e lost count .answer) ++ w .up)
     unfolding ifAllowed sentBy
-    on-forbidden e c named to zero q lost count = on-allowed e c named to q
-    on-forbidden e c named to (suc n) q lost count = F
+    on-forbidden e c l to zero q lost count = on-allowed e c l to q
+    on-forbidden e c l to (suc n) q lost count = F
 
   abbrev s : Station
   s = w .rooms i
@@ -233,13 +231,12 @@ module _ (z : Settings) (good : inRange z ≡ true) (w : World) (h : List Moment
       Fit (ifGood n s (cs i) e .station) (sentBy i (ifGood n s (cs i) e .answer) ++ w .up)
   unfolding ifGood sentBy
   on-refusal e c zero q =
-      let own = I .own i here in
-      let fine : refusal z i (s .reading) (cs i) e ≡ 0 =
-      ap (λ (y : Settings). refusal y i (s .reading) (cs i) e) (sym (own .settings))
-      ∙ ap (λ (n : ℕ). refusal (s .settings) n (s .reading) (cs i) e) (sym (own .number)) ∙ q in
+      let x = expire s (cs i) in
+      let k = heard s (cs i) e q in
       let E = expired s (cs i) fit (isOver s (cs i)) in
-      on-forbidden (expire s (cs i)) (E .0) (E .1) e c (good-named z i (s .reading) (cs i) e fine) (good-station z i (s .reading) (cs i) e fine)
-      (forbids (expire s (cs i)) e) refl _ _
+      let l : profileFor e < length (x .holds) = omega (arith, heard-profile s (cs i) e k .1, E .0 .own .holds) in
+      let to : stationOf i e ≡ i = subst (λ (n : ℕ). stationOf n e ≡ n) (I .own i here .number) (k .mine) in
+      on-forbidden x (E .0) (E .1) e c l to (forbids x e) refl _ _
   on-refusal e c (suc n) q = fit
 
   pub event-sound : (e : Event) → Came (w .down) e → Sound z (withRoom w i (step s (cs i) e)) h cs

@@ -26,7 +26,7 @@ use Rattle.room.specs.declared.event.Waiting.the-variants.{Nothing}
 use Rattle.room.specs.Stage.{isOut}
 use Rattle.room.specs.Refusal.{useRefusal}
 use Rattle.station.specs.Station.{newStation, modeOf, leaseOf, usable, ifUse, mayUse}
-use Rattle.station.proofs.Seat.{no-modes, no-holds-length}
+use Rattle.station.proofs.Frames.{none-held, none-length}
 use Rattle.network.specs.Picture.{World, worldAtFirst, Happening, nothing, ticks, hears, gets, does, asks, Moment, next, run}
 use Rattle.network.specs.Premises.{Clocks, Happens, Permitted, begins, goes-on}
 use Rattle.network.specs.Claims.{Uses, modeAt, Safe, WaitBounds}
@@ -79,7 +79,7 @@ slot-first z i = λ j. record { last = all-same 16 i nobody j .last; status = al
 
 seat-first : (z : Settings) (i : ℕ) → seatOf (worldAtFirst z .rooms i) ≡ seat₀
 unfolding worldAtFirst newStation
-seat-first z i = λ j. record { out = true; start = 0; last = 0; waiting = Nothing; mode = λ p. no-modes p j }
+seat-first z i = λ j. record { out = true; start = 0; last = 0; waiting = Nothing; mode = λ p. none-held p j .mode .0 }
 
 kept-first : (z : Settings) → Kept z (worldAtFirst z .server)
 unfolding worldAtFirst newServer
@@ -93,7 +93,7 @@ kept-first z = record {
 -- "own numbers"
 own-first : (z : Settings) (i : ℕ) → Own z i (worldAtFirst z .rooms i)
 unfolding worldAtFirst newStation
-own-first z i = record { settings = refl; number = refl; holds = no-holds-length }
+own-first z i = record { settings = refl; number = refl; holds = none-length }
 
 pair-first : (z : Settings) (i : ℕ) →
     Inv (lease z) (slotOf (worldAtFirst z .server) i) (seatOf (worldAtFirst z .rooms i)) (sentUp (worldAtFirst z .up) i) (ackDown (worldAtFirst z .down) i) (past [] i) 0
@@ -189,8 +189,8 @@ module _ (z : Settings) (good : inRange z ≡ true) (W : ℕ) (enough : lease z 
   steps t h w clocks I nothing k = I
   steps t h w clocks I ticks k = tick-sound z good W w (t ∷ h) (t .rooms) I (t .server) (λ i. (t, List·Memᴰ·head refl, refl, refl)) (over t h clocks)
   steps t h w clocks I (hears m) k = hears-sound z good w (t ∷ h) (t .rooms) I m k (t .server) W
-  steps t h w clocks I (gets i m) k = gets-sound z good w (t ∷ h) (t .rooms) I i (k .0) m (k .1)
-  steps t h w clocks I (does i e) k = does-sound z good w (t ∷ h) (t .rooms) I i (k .0) e (k .1)
+  steps t h w clocks I (gets i m) k = gets-sound z w (t ∷ h) (t .rooms) I i (k .0) m (k .1)
+  steps t h w clocks I (does i e) k = does-sound z w (t ∷ h) (t .rooms) I i (k .0) e (k .1)
   steps t h w clocks I (asks i) k = I
 
   pub sound : {h : List Moment} → Permitted z W h → Sound z (run z W h) h (clockOf h)

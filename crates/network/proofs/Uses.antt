@@ -13,7 +13,8 @@ use Rattle.room.specs.declared.event.Event.{Event}
 use Rattle.room.specs.declared.event.Event.the-variants.{Begin, Edit, WriteOut}
 use Rattle.station.specs.declared.event.UseAnswer.the-variants.{Yes}
 use Rattle.station.specs.Station.{modeOf, mayUse, step}
-use Rattle.station.proofs.Allowed.{InUse, begin-uses, edit-uses, write-out-uses}
+use Rattle.station.proofs.Steps.{isGood}
+use Rattle.station.proofs.Uses.{InUse, begin-uses, edit-uses, write-uses}
 use Rattle.network.specs.Picture.{Happening, Moment, next, run}
 use Rattle.network.specs.Premises.{Happens, Permitted, goes-on}
 use Rattle.network.specs.Claims.{modeAt, Safe}
@@ -36,7 +37,10 @@ module _ (z : Settings) (good : inRange z ≡ true) (t : Moment) (h : List Momen
       ap (λ (k : Happening). next (wait z) (run z (wait z) h) t k .rooms i) (A .happens)
       ∙ ap (λ (b : Bool). cond b (step s (t .rooms i) e .station) s) (eq-eqb i i refl)
 
-  undisturbed : InUse s (t .rooms i) (step s (t .rooms i) e .station) p → Undisturbed z t h i p
+  good-answer : isGood (step s (t .rooms i) e .answer) ≡ true
+  good-answer = ap isGood (A .done)
+
+  undisturbed : InUse s (t .rooms i) p e → Undisturbed z t h i p
   unfolding Safe
   undisturbed U = record {
     uses = uses;
@@ -45,7 +49,7 @@ module _ (z : Settings) (good : inRange z ≡ true) (t : Moment) (h : List Momen
   }
     where
       uses : mayUse (run z (wait z) (t ∷ h) .rooms i) (t .rooms i) p ≡ Yes
-      uses = ap (λ (x : Station). mayUse x (t .rooms i) p) room-after ∙ U .may-use
+      uses = ap (λ (x : Station). mayUse x (t .rooms i) p) room-after ∙ U .uses-after
 
       held : modeOf (run z (wait z) (t ∷ h) .rooms i) p ≡ heldMode z t h i p
       held = ap (λ (x : Station). modeOf x p) room-after ∙ U .mode-stays
@@ -57,17 +61,17 @@ module _ (z : Settings) (good : inRange z ≡ true) (t : Moment) (h : List Momen
 pub begin-safe : BeginSafe
 unfolding BeginSafe
 begin-safe z good t h i p m A =
-    let U = begin-uses (run z (wait z) h .rooms i) (t .rooms i) p m (A .done) in
+    let U = begin-uses (run z (wait z) h .rooms i) (t .rooms i) p m (good-answer z good t h i p (Begin p m) A) in
     (U .0, undisturbed z good t h i p (Begin p m) A (U .1))
 
 pub edit-safe : EditSafe
 unfolding EditSafe
 edit-safe z good t h i p A =
-    let U = edit-uses (run z (wait z) h .rooms i) (t .rooms i) p (A .done) in
+    let U = edit-uses (run z (wait z) h .rooms i) (t .rooms i) p (good-answer z good t h i p (Edit p) A) in
     (U .0, undisturbed z good t h i p (Edit p) A (U .1))
 
 pub write-out-safe : WriteOutSafe
 unfolding WriteOutSafe
 write-out-safe z good t h i p A =
-    let U = write-out-uses (run z (wait z) h .rooms i) (t .rooms i) p (A .done) in
+    let U = write-uses (run z (wait z) h .rooms i) (t .rooms i) p (good-answer z good t h i p (WriteOut p) A) in
     (U .0, undisturbed z good t h i p (WriteOut p) A (U .1))

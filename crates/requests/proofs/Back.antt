@@ -7,7 +7,6 @@ use borrow.Author.Tests.{leb-false}
 use lib.Dec.{leb}
 use mathlib.Core.Bool.{Bool, true, false, cond}
 use Rattle.modes.specs.Modes.{mode}
-use Rattle.modes.specs.declared.Mode.{Mode}
 use Rattle.record.specs.declared.message.Message.{Message}
 use Rattle.timing.proofs.Choice.{past-if, past-unless}
 use Rattle.requests.specs.Request.{Request, Hello, KeepAlive, Ask, Release, Keep, Asked, For, Nothing, profileOf, pairRefusal, requestRefusal, messageOf, askedAs, requestOf, SaidAsked, saidAsked}

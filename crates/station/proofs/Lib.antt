@@ -9,6 +9,5 @@ pub mod Sound
 pub mod Outcome
 pub mod Numbers
 pub mod Uses
-pub mod Seat
-pub mod Allowed
+pub mod Sent
 pub mod Meanings

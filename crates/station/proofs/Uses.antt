@@ -1,29 +1,30 @@
 -- What the engine allows is a use: begin, edit and write out are answered done only where the station may use the profile then.
+-- It still may afterwards, in the same mode; that mode covers the begun one, or writes.
 -- Assumes nothing.
 use mathlib.Core.Path.{_≡_, refl, sym, ap, _∙_}
-use mathlib.Core.Bool.{Bool, true, false, cond, _&&_, not, true≢false}
+use mathlib.Core.Bool.{Bool, true, false, _&&_, not, true≢false}
 use Prim.Native.Nat.{ℕ, _+_, _<_, _≤_}
-use lib.Dec.{leb}
+use native.Mathlib.Nat.{le-refl}
 use borrow.Author.Tests.{lt-leb, le-ltb, lt-ltb, leb-false}
 use Rattle.modes.specs.Modes.{isMode, covers, writes}
 use Rattle.modes.specs.declared.Mode.{Mode}
 use Rattle.modes.proofs.Laws.{writes-mode, mode-covered}
 use Rattle.timing.specs.Limits.{readingLimit}
+use Rattle.timing.specs.declared.settings.Settings.{Settings}
 use Rattle.timing.specs.Settings.{inRange}
-use Rattle.station.specs.Event.{Event, Begin, Edit, WriteOut}
-use Rattle.room.specs.Stage.{isOut}
 use Rattle.timing.specs.Reading.{passed}
-use Rattle.timing.specs.Reading.{orElse, readingRefusal}
-use Rattle.requests.specs.Request.{profileRefusal}
 use Rattle.requests.proofs.Back.{in-modes}
-use Rattle.room.specs.Refusal.{ownRefusal, useRefusal}
-use Rattle.station.specs.Station.{Station, modeOf, leaseOf, atReading, isOver, expire, step, ifUse, mayUse}
+use Rattle.room.specs.Hold.{withUnwritten}
+use Rattle.room.specs.Stage.{isOut}
+use Rattle.room.specs.Refusal.{useRefusal}
+use Rattle.station.specs.Event.{Event, Begin, Edit, WriteOut}
+use Rattle.station.specs.Effect.{begun}
+use Rattle.station.specs.Station.{Station, Stepped, modeOf, leaseOf, atReading, isOver, expire, refusalOf, forbids, after, step, mayUse}
 use Rattle.station.specs.declared.event.UseAnswer.the-variants as use'
-use Rattle.timing.proofs.Choice.{both}
-use Rattle.station.proofs.Steps.{isGood, good-done}
-use Rattle.station.proofs.Frames.{ends, lasts}
+use Rattle.station.proofs.Steps.{isGood, happens, good-done}
+use Rattle.station.proofs.Frames.{ends, lasts, profileFor, modes-kept}
 use Rattle.station.proofs.Shown.{begin-shows, edit-shows, write-shows}
-use Rattle.station.proofs.Heard.{Heard, heard, heard-profile}
+use Rattle.station.proofs.Heard.{heard, heard-profile}
 
 -- a station that is not out after its reading was taken has its lease and its modes
 pub record Leased (s : Station) (now : ℕ) : Type 0 where
@@ -45,25 +46,45 @@ leased s now o = by-test (isOver s now) refl
         let i : isOut (s .standing) ≡ false = sym (ap (λ (x : Station). isOut (x .standing)) q) ∙ o in
         record { inside = i; left = leb-false (s .start + leaseOf s) now (runs (isOut (s .standing)) i e); same = q }
 
--- the question is not refused where the event was not
-asked : (s : Station) (now p : ℕ) → inRange (s .settings) ≡ true → s .number < s .settings .stations → p < s .settings .profiles
-    → now ≤ readingLimit → s .reading ≤ now → useRefusal (s .settings) (s .number) (s .reading) now p ≡ 0
+-- where 1 to 6 do not refuse the question
+pub use-free : (z : Settings) → inRange z ≡ true → (own last now p : ℕ) → own < z .stations → p < z .profiles
+    → now ≤ readingLimit → last ≤ now → useRefusal z own last now p ≡ 0
 unfolding useRefusal
-asked s now p g o l r f =
-    let own : ownRefusal (s .settings) (s .number) ≡ 0 =
-    ap (λ (t : Bool). cond t (cond (leb (s .settings .stations) (s .number)) 2 0) 1) g
-    ∙ ap (λ (t : Bool). cond t 2 0) (lt-leb (s .settings .stations) (s .number) o) in
-    let prof : profileRefusal (s .settings .profiles) p ≡ 0 = ap (λ (t : Bool). cond t 3 0) (lt-leb (s .settings .profiles) p l) in
-    let read : readingRefusal (s .reading) now ≡ 0 =
-    both (λ (t u : Bool). cond t 5 (cond u 6 0)) (le-ltb readingLimit now r) (le-ltb now (s .reading) f) in
-    both orElse own (both orElse prof read)
+use-free z range own last now p here named limit forward =
+    rw (range, lt-leb (z .stations) own here, lt-leb (z .profiles) p named, le-ltb readingLimit now limit, le-ltb now last forward)
 
-pub may-use : (s : Station) (now p : ℕ) (e : Event) → Heard s now e → p < s .settings .profiles → Leased s now
-    → isMode (modeOf s p) ≡ true → mayUse s now p ≡ use'.Yes
+pub may-use : (s : Station) (now p : ℕ) → useRefusal (s .settings) (s .number) (s .reading) now p ≡ 0
+    → isMode (modeOf s p) ≡ true → now < s .start + leaseOf s → mayUse s now p ≡ use'.Yes
 unfolding mayUse
-may-use s now p e h l k m =
-    both ifUse (asked s now p (h .range) (h .own) l (h .limit) (h .forward))
-    (both (λ (a b : Bool). a && b) m (lt-ltb now (s .start + leaseOf s) (k .left)))
+may-use s now p free mode left = rw (free, mode, lt-ltb now (s .start + leaseOf s) left)
+
+-- the profile may be used before the event, and after it in the same mode
+pub record InUse (s : Station) (now p : ℕ) (e : Event) : Type 0 where
+  pub uses : mayUse s now p ≡ use'.Yes
+  pub uses-after : mayUse (step s now e .station) now p ≡ use'.Yes
+  pub mode-stays : modeOf (step s now e .station) p ≡ modeOf s p
+
+-- so it is with an event that happens to a station within its lease, and leaves the lease and the mode of the profile that it names
+in-use : (s : Station) (now : ℕ) (e : Event) → refusalOf s now e ≡ 0 → forbids (expire s now) e ≡ 0 → Leased s now
+    → isMode (modeOf s (profileFor e)) ≡ true → after (atReading s now) e .start ≡ s .start
+    → modeOf (after (atReading s now) e) (profileFor e) ≡ modeOf s (profileFor e) → InUse s now (profileFor e) e
+unfolding after
+in-use s now e h f k m start same =
+    let p = profileFor e in
+    let x = after (atReading s now) e in
+    let q = heard s now e h in
+    let l = heard-profile s now e q .0 in
+    let left = k .left in
+    let free : (last : ℕ) → last ≤ now → useRefusal (s .settings) (s .number) last now p ≡ 0 =
+    λ last forward. use-free (s .settings) (q .range) (s .number) last now p (q .own) l (q .limit) forward in
+    let becomes : step s now e .station ≡ x =
+    ap (λ (r : Stepped). r .station) (happens s now e h f) ∙ ap (λ (x : Station). after x e) (k .same) in
+    record {
+      uses = may-use s now p (free (s .reading) (q .forward)) m left;
+      uses-after = ap (λ (x : Station). mayUse x now p) becomes
+          ∙ may-use x now p (free now (le-refl now)) (ap isMode same ∙ m) (rw start left);
+      mode-stays = ap (λ (x : Station). modeOf x p) becomes ∙ same;
+    }
 
 module _ (s : Station) (now p : ℕ) where
   mode-kept : Leased s now → modeOf (expire s now) p ≡ modeOf s p
@@ -71,34 +92,31 @@ module _ (s : Station) (now p : ℕ) where
 
   -- begun in a mode that the held one covers
   pub begin-uses : (m : Mode) → isGood (step s now (Begin p m) .answer) ≡ true
-      → (mayUse s now p ≡ use'.Yes) × (covers (modeOf s p) (m .0) ≡ true)
+      → (covers (modeOf s p) (m .0) ≡ true) × InUse s now p (Begin p m)
+  unfolding after
   begin-uses m g =
-      let d = good-done s now (Begin p m) g in
-      let h = heard s now (Begin p m) (d .0) in
-      let b = begin-shows (expire s now) p (m .0) (d .1) in
-      let k = leased s now (b .0) in
-      let c : covers (modeOf s p) (m .0) ≡ true = sym (ap (λ (n : ℕ). covers n (m .0)) (mode-kept k)) ∙ b .1 in
-      let o = in-modes (s .settings .profiles) p (isMode (m .0)) (h .named) in
-      (may-use s now p (Begin p m) h (heard-profile s now (Begin p m) h .0) k (mode-covered (modeOf s p) (m .0) c o), c)
-
-  by-writing : (e : Event) → Heard s now e → p < s .settings .profiles → isOut (expire s now .standing) ≡ false
-      → writes (modeOf (expire s now) p) ≡ true → (mayUse s now p ≡ use'.Yes) × (writes (modeOf s p) ≡ true)
-  by-writing e h l o w =
-      let k = leased s now o in
-      let c : writes (modeOf s p) ≡ true = sym (ap writes (mode-kept k)) ∙ w in
-      (may-use s now p e h l k (writes-mode (modeOf s p) c), c)
+      let (h, f) = good-done s now (Begin p m) g in
+      let (inside, covered) = begin-shows (expire s now) p (m .0) f in
+      let k = leased s now inside in
+      let c : covers (modeOf s p) (m .0) ≡ true = sym (ap (λ (n : ℕ). covers n (m .0)) (mode-kept k)) ∙ covered in
+      let o = in-modes (s .settings .profiles) p (isMode (m .0)) (heard s now (Begin p m) h .named) in
+      (c, in-use s now (Begin p m) h f k (mode-covered (modeOf s p) (m .0) c o) refl (modes-kept begun (λ h. refl) (s .holds) p p))
 
   -- edited and written out under a writing mode
-  pub edit-uses : isGood (step s now (Edit p) .answer) ≡ true → (mayUse s now p ≡ use'.Yes) × (writes (modeOf s p) ≡ true)
+  pub edit-uses : isGood (step s now (Edit p) .answer) ≡ true → (writes (modeOf s p) ≡ true) × InUse s now p (Edit p)
+  unfolding after
   edit-uses g =
-      let d = good-done s now (Edit p) g in
-      let h = heard s now (Edit p) (d .0) in
-      let b = edit-shows (expire s now) p (d .1) in
-      by-writing (Edit p) h (heard-profile s now (Edit p) h .0) (b .0) (b .1)
+      let (h, f) = good-done s now (Edit p) g in
+      let (inside, writing) = edit-shows (expire s now) p f in
+      let k = leased s now inside in
+      let c : writes (modeOf s p) ≡ true = sym (ap writes (mode-kept k)) ∙ writing in
+      (c, in-use s now (Edit p) h f k (writes-mode (modeOf s p) c) refl (modes-kept (withUnwritten true) (λ h. refl) (s .holds) p p))
 
-  pub write-uses : isGood (step s now (WriteOut p) .answer) ≡ true → (mayUse s now p ≡ use'.Yes) × (writes (modeOf s p) ≡ true)
+  pub write-uses : isGood (step s now (WriteOut p) .answer) ≡ true → (writes (modeOf s p) ≡ true) × InUse s now p (WriteOut p)
+  unfolding after
   write-uses g =
-      let d = good-done s now (WriteOut p) g in
-      let h = heard s now (WriteOut p) (d .0) in
-      let b = write-shows (expire s now) p (d .1) in
-      by-writing (WriteOut p) h (heard-profile s now (WriteOut p) h .0) (b .0) (b .1)
+      let (h, f) = good-done s now (WriteOut p) g in
+      let (inside, writing) = write-shows (expire s now) p f in
+      let k = leased s now inside in
+      let c : writes (modeOf s p) ≡ true = sym (ap writes (mode-kept k)) ∙ writing in
+      (c, in-use s now (WriteOut p) h f k (writes-mode (modeOf s p) c) refl (modes-kept (withUnwritten false) (λ h. refl) (s .holds) p p))

@@ -3,7 +3,7 @@
 use mathlib.Core.Path.{_≡_, refl, sym, ap, _∙_}
 use mathlib.Core.Bool.{Bool, true, false, cond, _&&_, not}
 use mathlib.Core.List.{List}
-use Prim.Native.Nat.{ℕ, zero, suc, _+_, _-_, _<_}
+use Prim.Native.Nat.{ℕ, zero, suc, _+_, _<_}
 use native.Mathlib.Omega.{arith}
 use lib.Dec.{ltb}
 use lib.Count.{ones}
@@ -13,13 +13,11 @@ use borrow.Author.Tests.{ltb-true}
 use Rattle.modes.specs.Modes.{isMode, covers}
 use Rattle.modes.specs.declared.Mode.{Mode}
 use Rattle.timing.specs.declared.settings.Phase.{Phase}
-use Rattle.timing.specs.Phase.{saidPhase, phaseAfter}
-use Rattle.timing.proofs.Said.{phase-told}
 use Rattle.timing.specs.declared.settings.Settings.{Settings}
 use Rattle.timing.specs.Settings.{lease, inRange, leaseAnswer}
-use Rattle.station.specs.Event.{Request, Hello, KeepAlive, Ask, Release, Keep, Waiting, Ack, Event, Send, Begin, Edit, End, WriteOut, Restart, Acked, Nacked, Demand, Hold, Standing, Out, Open, Closing, Stage}
+use Rattle.station.specs.Event.{Request, Hello, KeepAlive, Ask, Release, Keep, Waiting, Ack, Event, Send, Begin, Edit, End, WriteOut, Restart, Acked, Nacked, Demand, Hold, Standing, Out, Stage}
 use Rattle.room.specs.Hold.{holdIn}
-use Rattle.room.specs.Stage.{isOut, openPhase, closingPhase, phaseAt}
+use Rattle.room.specs.Stage.{isOut}
 use Rattle.timing.specs.Reading.{passed}
 use Rattle.room.specs.Refusal.{ownRefusal, refusal, useRefusal}
 use Rattle.room.specs.Rules.{lastNumber, numberRefusal, releaseRefusal, startedRefusal, sendingRefusal, sendRefusal, beginRefusal, endRefusal, ackProfile, ackForbids}

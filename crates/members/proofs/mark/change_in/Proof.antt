@@ -6,9 +6,7 @@ use lib.ListN.{length, take, drop, length-set}
 use native.Mathlib.Omega.{arith}
 use Rattle.masks.specs.Mask.{changeUnder}
 use Rattle.masks.proofs.Walk.{under-turn, under-end}
-use Rattle.members.specs.Mark.{noMark}
-use Rattle.members.specs.Mark.{remark}
-use Rattle.members.specs.Mark.{markChange}
+use Rattle.members.specs.Mark.{noMark, remark, markChange}
 use borrow.Author.Needs.{needs}
 use Rattle.members.proofs.mark.change_in.Statement.{statement}
 use Rattle.members.proofs.mark.change_in.Tie as tie

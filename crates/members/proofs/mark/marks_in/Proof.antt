@@ -7,8 +7,7 @@ use borrow.Author.Needs.{needs}
 use Rattle.masks.specs.Mask
 use Rattle.masks.specs.Mask.{those, bitOf}
 use Rattle.masks.proofs.Laws.{turn, room, none, bit-small}
-use Rattle.members.specs.Mark.{Marked, noMark}
-use Rattle.members.specs.Mark.{markTest}
+use Rattle.members.specs.Mark.{Marked, noMark, markTest}
 use Rattle.members.proofs.mark.marks_in.Statement.{statement}
 use Rattle.members.proofs.mark.marks_in.Tie as tie
 

@@ -7,8 +7,7 @@ use borrow.Author.Needs.{needs}
 use Rattle.masks.specs.Mask
 use Rattle.masks.specs.Mask.{those, bitOf}
 use Rattle.masks.proofs.Laws.{turn, room, none, bit-small}
-use Rattle.members.specs.Member.{Member, nobody}
-use Rattle.members.specs.Member.{statusTest}
+use Rattle.members.specs.Member.{Member, nobody, statusTest}
 use Rattle.members.proofs.member.members_in.Statement.{statement}
 use Rattle.members.proofs.member.members_in.Tie as tie
 

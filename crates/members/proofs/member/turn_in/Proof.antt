@@ -6,8 +6,7 @@ use lib.ListN.{length, take, drop, length-set}
 use native.Mathlib.Omega.{arith}
 use Rattle.masks.specs.Mask.{changeUnder}
 use Rattle.masks.proofs.Walk.{under-turn, under-end}
-use Rattle.members.specs.Member.{nobody}
-use Rattle.members.specs.Member.{restatus}
+use Rattle.members.specs.Member.{nobody, restatus}
 use borrow.Author.Needs.{needs}
 use Rattle.members.proofs.member.turn_in.Statement.{statement}
 use Rattle.members.proofs.member.turn_in.Tie as tie

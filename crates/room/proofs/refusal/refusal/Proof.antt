@@ -2,8 +2,7 @@
 use mathlib.Core.Path.{ap, _∙_}
 use Rattle.timing.proofs.Choice.{first, next}
 use Rattle.room.proofs.Choice.{other, same}
-use Rattle.room.specs.Refusal.{refusal}
-use Rattle.room.specs.Refusal.{namedRefusal}
+use Rattle.room.specs.Refusal.{refusal, namedRefusal}
 use Prim.Native.Nat.{ℕ}
 use borrow.Author.Needs.{needs}
 use Rattle.room.proofs.refusal.refusal.Statement.{statement}

@@ -1,8 +1,7 @@
 -- `send_refusal` goes by the message to what it needs.
 use mathlib.Core.Path.{sym, ap, _∙_}
 use Prim.Native.Nat.{ℕ}
-use Rattle.room.specs.Rules.{sendingRefusal}
-use Rattle.room.specs.Rules.{sendRefusal}
+use Rattle.room.specs.Rules.{sendingRefusal, sendRefusal}
 use borrow.Author.Needs.{needs}
 use Rattle.room.proofs.rules.send_refusal.Statement.{statement}
 use Rattle.room.proofs.rules.send_refusal.Tie as tie

@@ -3,10 +3,9 @@ use Rattle.station.proofs.Ways.{room-up, room-down}
 use Rattle.room.proofs.Choice.{stored}
 use native.Mathlib.Omega.{arith}
 use mathlib.Core.Path.{sym, ap, _∙_}
-use Rattle.station.specs.Effect.{holdsAfter}
+use Rattle.station.specs.Effect.{holdsAfter, begun, ended}
 use mathlib.Core.Bool.{true, false}
 use Rattle.room.specs.Hold.{withUnwritten}
-use Rattle.station.specs.Effect.{begun, ended}
 use borrow.Author.Needs.{needs}
 use Rattle.station.proofs.effect.holds_after.Statement.{statement}
 use Rattle.station.proofs.effect.holds_after.Tie as tie

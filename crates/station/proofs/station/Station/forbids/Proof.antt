@@ -4,11 +4,8 @@ use Rattle.station.proofs.Ways.{on-hold, on-ack}
 use Rattle.room.specs.Rules.{sendRefusal, beginRefusal, editRefusal, endRefusal, writeOutRefusal, demandRefusal}
 use Rattle.requests.specs.Request.{profileOf}
 use Rattle.station.specs.Station.{forbids}
-use mathlib.Core.Path.{sym, ap, _∙_}
 use Rattle.station.specs.Event.{Hold, Stage}
 use Rattle.room.specs.Hold.{holdIn}
-use Rattle.room.specs.Rules.{sendRefusal, beginRefusal, editRefusal, endRefusal, writeOutRefusal, demandRefusal}
-use Rattle.station.specs.Station.{forbids}
 use borrow.Author.Needs.{needs}
 use Rattle.station.proofs.station.Station.forbids.Statement.{statement}
 use Rattle.station.proofs.station.Station.forbids.Tie as tie

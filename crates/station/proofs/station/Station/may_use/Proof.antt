@@ -2,8 +2,6 @@
 use mathlib.Core.Path.{ap}
 use borrow.Author.Tests.{not-true, not-false}
 use Rattle.station.proofs.Ways.{use-refused, use-unheld, use-over, use-leased}
-use mathlib.Core.Path.{ap}
-use borrow.Author.Tests.{not-true, not-false}
 use Rattle.timing.specs.Reading.{passed}
 use Rattle.station.specs.Said.{saidUse}
 use borrow.Author.Needs.{needs}

@@ -1,7 +1,6 @@
 -- `Station::step` refuses by 1 to 6, or ends a lease that has run, and judges the event.
 use mathlib.Core.Path.{ap}
 use Rattle.station.proofs.Ways.{refused, still-good, taken}
-use mathlib.Core.Path.{ap}
 use Rattle.station.specs.Said.{told}
 use borrow.Author.Needs.{needs}
 use Rattle.station.proofs.station.Station.step.Statement.{statement}
