@@ -3,8 +3,7 @@
 use mathlib.Core.Path.{_≡_, refl, sym, ap, _∙_}
 use mathlib.Core.Bool.{Bool, true, false, cond, _&&_, _||_}
 use mathlib.Core.List.{List, [], _∷_}
-use Prim.Native.Nat.{ℕ, zero, suc, _+_, _<_}
-use native.Mathlib.Nat.{not-suc-le-zero, le-of-suc-le-suc}
+use Prim.Native.Nat.{ℕ, zero, suc, _+_, _≤_}
 use native.Mathlib.Omega.{arith}
 use lib.ListN.{length, getD}
 use Rattle.masks.specs.Mask.{Set, any, both, either, thoseAt, those, changeIn}
@@ -13,7 +12,7 @@ use Rattle.masks.specs.Mask.{Set, any, both, either, thoseAt, those, cha
 abbrev pub has : Set → ℕ → Bool
 has s j = getD s j false
 
-no-right : (a : Bool) → (a && false) ≡ false
+pub no-right : (a : Bool) → (a && false) ≡ false
 no-right true = refl
 no-right false = refl
 
@@ -42,23 +41,27 @@ has-none (false ∷ s) e zero = refl
 has-none (false ∷ s) e (suc j) = has-none s e j
 has-none (true ∷ s) e j = let z : _≡_ {A = ℕ} 0 1 = cc in absurd (omega arith)
 
+-- At each place, and beyond the list if what stands for it there keeps out of the set, or is changed to itself.
 module _ {A : Type 0} where
-  pub has-at : (f : ℕ → A → Bool) (d : A) (k : ℕ) (xs : List A) (j : ℕ) → j < length xs → has (thoseAt f k xs) j ≡ f (k + j) (getD xs j d)
-  has-at f d k [] j h = absurd (not-suc-le-zero h)
+  pub has-at : (f : ℕ → A → Bool) (d : A) (k : ℕ) (xs : List A) (j : ℕ) → (length xs ≤ j → f (k + j) d ≡ false)
+      → has (thoseAt f k xs) j ≡ f (k + j) (getD xs j d)
+  has-at f d k [] j h = sym (h (omega arith))
   has-at f d k (x ∷ xs) zero h = ap (λ (n : ℕ). f n x) (omega arith)
   has-at f d k (x ∷ xs) (suc j) h =
-      has-at f d (suc k) xs j (le-of-suc-le-suc h) ∙ ap (λ (n : ℕ). f n (getD xs j d)) (omega arith)
+      let e : suc k + j ≡ k + suc j = omega arith in
+      has-at f d (suc k) xs j (λ l. ap (λ (n : ℕ). f n d) e ∙ h (omega arith)) ∙ ap (λ (n : ℕ). f n (getD xs j d)) e
 
-  pub has-those : (f : A → Bool) (d : A) (xs : List A) (j : ℕ) → j < length xs → has (those f xs) j ≡ f (getD xs j d)
-  has-those f d [] j h = absurd (not-suc-le-zero h)
+  pub has-those : (f : A → Bool) (d : A) (xs : List A) (j : ℕ) → (length xs ≤ j → f d ≡ false) → has (those f xs) j ≡ f (getD xs j d)
+  has-those f d [] j h = sym (h (omega arith))
   has-those f d (x ∷ xs) zero h = refl
-  has-those f d (x ∷ xs) (suc j) h = has-those f d xs j (le-of-suc-le-suc h)
+  has-those f d (x ∷ xs) (suc j) h = has-those f d xs j (λ l. h (omega arith))
 
-  pub changed : (f : A → A) (d : A) (s : Set) (xs : List A) (j : ℕ) → j < length xs → getD (changeIn f s xs) j d ≡ cond (has s j) (f (getD xs j d)) (getD xs j d)
+  pub changed : (f : A → A) (d : A) (s : Set) (xs : List A) (j : ℕ) → (length xs ≤ j → cond (has s j) (f d) d ≡ d)
+      → getD (changeIn f s xs) j d ≡ cond (has s j) (f (getD xs j d)) (getD xs j d)
   changed f d [] xs j h = refl
-  changed f d (b ∷ s) [] j h = absurd (not-suc-le-zero h)
+  changed f d (b ∷ s) [] j h = sym (h (omega arith))
   changed f d (b ∷ s) (x ∷ xs) zero h = refl
-  changed f d (b ∷ s) (x ∷ xs) (suc j) h = changed f d s xs j (le-of-suc-le-suc h)
+  changed f d (b ∷ s) (x ∷ xs) (suc j) h = changed f d s xs j (λ l. h (omega arith))
 
   pub length-changed : (f : A → A) (s : Set) (xs : List A) → length (changeIn f s xs) ≡ length xs
   length-changed f [] xs = refl

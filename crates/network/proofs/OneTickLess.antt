@@ -1,4 +1,5 @@
 -- One tick less is too little: for all valid settings with two stations or more a permitted history breaks safety.
+-- Assumes nothing.
 use mathlib.Core.Path.{_≡_, refl, ap, _∙_}
 use mathlib.Core.Bool.{true, false}
 use mathlib.Core.List.{List, [], _∷_, List·Memᴰ·not-nil}

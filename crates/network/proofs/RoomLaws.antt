@@ -1,10 +1,12 @@
 -- What a room does where nothing is refused.
+-- Assumes nothing.
 use mathlib.Core.Path.{_≡_, refl, ap, _∙_}
 use mathlib.Core.Bool.{Bool, true, false, _&&_, not}
 use Prim.Native.Nat.{ℕ, _+_, _-_, _<_, _≤_}
 use borrow.Author.Tests.{ltb-true, ltb-false, le-ltb, lt-leb, eq-eqb}
 use lib.Dec.{ltb}
-use Rattle.masks.specs.Mask.{mask, count}
+use Rattle.masks.specs.Mask.{Set, mask, count}
+use Rattle.masks.proofs.Sets.{no-right}
 use Rattle.timing.specs.Limits.{readingLimit}
 use Rattle.timing.specs.declared.settings.Settings.{Settings}
 use Rattle.timing.specs.Settings.{inRange, lease}
@@ -16,31 +18,29 @@ use Rattle.room.specs.declared.stage.Standing.the-variants.{Open}
 use Rattle.room.specs.Stage.{early, phaseAt, openPhase, isOut}
 use Rattle.room.specs.Refusal.{stationOf, namedRefusal, refusal}
 use Rattle.station.specs.Effect.{lastAfter, answerTo}
-use Rattle.station.specs.Station.{isOver, atReading, gone, forbids, after, stepped, judged, endedIf, isRestart, lost, lostIf, ifGood, ifAllowed, step}
+use Rattle.station.specs.Station.{isOver, atReading, gone, expire, refusalOf, forbids, after, stepped, isRestart, lost, lostIf, step}
+use Rattle.station.proofs.Steps.{happens}
+use Rattle.station.proofs.Frames.{ends, lasts}
 
 module _ (s : Station) (now : ℕ) (e : Event) where
-  step-good : refusal (s .settings) (s .number) (s .reading) now e ≡ 0 →
-      step s now e ≡ judged (endedIf (isOver s now) s now) e (mask (lost s now e)) (count (lost s now e))
-  unfolding step ifGood
-  step-good free = ap (λ (n : ℕ). ifGood n s now e) free
+  step-as : (x : Station) → expire s now ≡ x → refusalOf s now e ≡ 0 → forbids x e ≡ 0 →
+      step s now e ≡ stepped (after x e) (answerTo (lastAfter (x .last) e) (x .holds) e) (mask (lost s now e)) (count (lost s now e))
+  step-as x same free may =
+      happens s now e free (ap (λ (x : Station). forbids x e) same ∙ may)
+      ∙ ap (λ (x : Station). stepped (after x e) (answerTo (lastAfter (x .last) e) (x .holds) e) (mask (lost s now e)) (count (lost s now e))) same
 
   -- while the lease runs, or out
-  pub step-on : refusal (s .settings) (s .number) (s .reading) now e ≡ 0 → isOver s now ≡ false → forbids (atReading s now) e ≡ 0 →
+  pub step-on : refusalOf s now e ≡ 0 → isOver s now ≡ false → forbids (atReading s now) e ≡ 0 →
       step s now e ≡ stepped (after (atReading s now) e) (answerTo (lastAfter (s .last) e) (s .holds) e) 0 0
-  unfolding endedIf ifAllowed
   step-on free over may =
-      step-good free
-      ∙ ap (λ (b : Bool). judged (endedIf b s now) e (mask (lostIf (b && not (isRestart e)) (s .holds))) (count (lostIf (b && not (isRestart e)) (s .holds)))) over
-      ∙ ap (λ (n : ℕ). ifAllowed n (atReading s now) e 0 0) may
+      step-as (atReading s now) (lasts s now over) free may
+      ∙ ap (λ (l : Set). stepped (after (atReading s now) e) (answerTo (lastAfter (s .last) e) (s .holds) e) (mask l) (count l))
+      (ap (λ (b : Bool). lostIf (b && not (isRestart e)) (s .holds)) over)
 
   -- where the lease has run its length
-  pub step-over : refusal (s .settings) (s .number) (s .reading) now e ≡ 0 → isOver s now ≡ true → forbids (gone s now) e ≡ 0 →
+  pub step-over : refusalOf s now e ≡ 0 → isOver s now ≡ true → forbids (gone s now) e ≡ 0 →
       step s now e ≡ stepped (after (gone s now) e) (answerTo (lastAfter (s .last) e) (gone s now .holds) e) (mask (lost s now e)) (count (lost s now e))
-  unfolding endedIf ifAllowed
-  step-over free over may =
-      step-good free
-      ∙ ap (λ (b : Bool). judged (endedIf b s now) e (mask (lost s now e)) (count (lost s now e))) over
-      ∙ ap (λ (n : ℕ). ifAllowed n (gone s now) e (mask (lost s now e)) (count (lost s now e))) may
+  step-over free over may = step-as (gone s now) (ends s now over) free may
 
 module _ (z : Settings) (good : inRange z ≡ true) where
   pub free : (own last now : ℕ) (e : Event) → own < z .stations → stationOf own e ≡ own → namedRefusal (z .profiles) e ≡ 0 →
@@ -51,11 +51,7 @@ module _ (z : Settings) (good : inRange z ≡ true) where
 
   -- a lease that has not run its length
   pub runs : (s : Station) (now : ℕ) → now < s .start + lease (s .settings) → isOver s now ≡ false
-  runs s now b = ap (λ (t : Bool). not (isOut (s .standing)) && t) (lt-leb (s .start + lease (s .settings)) now b) ∙ never (not (isOut (s .standing)))
-    where
-      never : (t : Bool) → (t && false) ≡ false
-      never true = refl
-      never false = refl
+  runs s now b = ap (λ (t : Bool). not (isOut (s .standing)) && t) (lt-leb (s .start + lease (s .settings)) now b) ∙ no-right (not (isOut (s .standing)))
 
   -- phase 1 or 2
   pub is-early : (start now : ℕ) → now - start < edge2 z → early (phaseAt z Open start now) ≡ true

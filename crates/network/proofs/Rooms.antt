@@ -96,7 +96,7 @@ module _ (z : Settings) (w : World) (h : List Moment) (cs : ℕ → ℕ) (I : So
   moved-own x F = record {
     pair = λ j b. split j i (λ e. mine j e) (λ e. other j b e);
     own = λ j b. split j i (λ e. mine-own j e) (λ e. other-own j b e);
-    kept = I .kept;
+    server = I .server;
   }
     where
       pairOf : ℕ → Bool → Type 0

@@ -8,18 +8,18 @@ use Prim.Native.Nat.{ℕ, zero, suc, _+_, _-_, _*_, _<_, _≤_, zero-le}
 use native.Mathlib.Nat.{mul-le-mul-right, lt-of-mul-lt-mul-right}
 use native.Mathlib.Omega.{arith}
 use lib.Dec.{ltb}
-use lib.ListN.{length, getD, replicate}
+use lib.ListN.{getD, replicate}
 use borrow.Author.Tests.{ltb-true}
 use Rattle.record.specs.declared.message.Message.{Message}
 use Rattle.modes.specs.Modes.{mode, covers, goesWith, isMode}
-use Rattle.modes.proofs.Laws.{both-covered-go, none-goes}
+use Rattle.modes.proofs.Laws.{both-covered-go}
 use Rattle.timing.specs.declared.settings.Settings.{Settings}
 use Rattle.timing.specs.Settings.{lease, inRange, Rate}
 use Rattle.timing.proofs.Ranges.{ranges}
 use Rattle.timing.proofs.Wait.{rate-sum, wait-enough, wait-sharp}
 use Rattle.members.specs.declared.member.Status.the-variants.{Unknown}
-use Rattle.server.specs.State.{newServer, nobody, noProfile, emptyProfile, statusOf}
-use Rattle.server.proofs.Frames.{entry}
+use Rattle.server.specs.State.{newServer, nobody, statusOf, modeOf as serverMode}
+use Rattle.server.proofs.Reachable.{new-unknown, new-nothing, sound-new}
 use Rattle.station.specs.declared.station.Station.{Station}
 use Rattle.station.specs.declared.event.UseAnswer.the-variants.{Yes}
 use Rattle.room.specs.declared.event.Waiting.the-variants.{Nothing}
@@ -31,7 +31,7 @@ use Rattle.network.specs.Picture.{World, worldAtFirst, Happening, nothin
 use Rattle.network.specs.Premises.{Clocks, Happens, Permitted, begins, goes-on}
 use Rattle.network.specs.Claims.{Uses, modeAt, Safe, WaitBounds}
 use Rattle.network.proofs.Pair.{Slot, Seat, Inv, held-known, later}
-use Rattle.network.proofs.Sound.{slotOf, seatOf, sentUp, ackDown, past, Kept, Own, Sound}
+use Rattle.network.proofs.Sound.{slotOf, seatOf, sentUp, ackDown, past, Own, Sound}
 use Rattle.network.proofs.Hearing.{hears-sound}
 use Rattle.network.proofs.Ticking.{tick-sound}
 use Rattle.network.proofs.Rooms.{does-sound, gets-sound}
@@ -63,32 +63,13 @@ all-same zero i d = refl
 all-same (suc n) zero d = refl
 all-same (suc n) (suc i) d = all-same n i d
 
-no-entry : (n i p : ℕ) → entry (replicate n emptyProfile) i p ≡ 0
-no-entry zero i p = refl
-no-entry (suc n) i zero = ap (λ m. m .0) (all-same 16 i (mode 0))
-no-entry (suc n) i (suc p) = no-entry n i p
-
-rows-wide : (n p : ℕ) → p < n → length (getD (replicate n emptyProfile) p noProfile .row) ≡ 16
-rows-wide zero p b = absurd (omega arith)
-rows-wide (suc n) zero b = refl
-rows-wide (suc n) (suc p) b = rows-wide n p (omega arith)
-
 slot-first : (z : Settings) (i : ℕ) → slotOf (worldAtFirst z .server) i ≡ slot₀
 unfolding worldAtFirst newServer
-slot-first z i = λ j. record { last = all-same 16 i nobody j .last; status = all-same 16 i nobody j .status; mode = λ p. no-entry 64 i p j }
+slot-first z i = λ j. record { last = all-same 16 i nobody j .last; status = new-unknown z i j; mode = λ p. new-nothing z i p .0 j }
 
 seat-first : (z : Settings) (i : ℕ) → seatOf (worldAtFirst z .rooms i) ≡ seat₀
 unfolding worldAtFirst newStation
 seat-first z i = λ j. record { out = true; start = 0; last = 0; waiting = Nothing; mode = λ p. none-held p j .mode .0 }
-
-kept-first : (z : Settings) → Kept z (worldAtFirst z .server)
-unfolding worldAtFirst newServer
-kept-first z = record {
-  settings = refl;
-  members = refl;
-  profiles = record { count = refl; width = λ p b. rows-wide 64 p b };
-  apart = λ i j p bi bj ne. ap (λ (n : ℕ). goesWith n (entry (replicate 64 emptyProfile) j p)) (no-entry 64 i p) ∙ none-goes (entry (replicate 64 emptyProfile) j p);
-}
 
 -- "own numbers"
 own-first : (z : Settings) (i : ℕ) → Own z i (worldAtFirst z .rooms i)
@@ -102,7 +83,8 @@ pair-first z i =
     rw (slot-first z i, seat-first z i) (inv₀ (lease z) (sentUp [] i) (ackDown [] i) (past [] i) (λ m u. List·Memᴰ·not-nil (u .0)) (λ m d. List·Memᴰ·not-nil (d .0)))
 
 sound-first : (z : Settings) → Sound z (worldAtFirst z) [] (λ i. 0)
-sound-first z = record { pair = λ i b. pair-first z i; own = λ i b. own-first z i; kept = kept-first z }
+unfolding worldAtFirst
+sound-first z = record { pair = λ i b. pair-first z i; own = λ i b. own-first z i; server = sound-new z }
 
 -- A room that may use a profile is not out, its lease lasts, and it holds a mode.
 may-use : (n : ℕ) (b : Bool) → ifUse n b ≡ Yes → b ≡ true
@@ -120,7 +102,7 @@ none-is-no-mode n e h = false≢true (rw e at h)
 
 -- what the server has then covers what the room uses
 covered : (z : Settings) (w : World) (h : List Moment) (cs : ℕ → ℕ) → Sound z w h cs → (i p : ℕ) → i < z .stations → mayUse (w .rooms i) (cs i) p ≡ Yes →
-    covers (entry (w .server .profiles) i p) (modeOf (w .rooms i) p) ≡ true
+    covers (serverMode (w .server) i p) (modeOf (w .rooms i) p) ≡ true
 covered z w h cs I i p b u = by-test (isOut (w .rooms i .standing)) refl
   where
     J : Inv (lease z) (slotOf (w .server) i) (seatOf (w .rooms i)) (sentUp (w .up) i) (ackDown (w .down) i) (past h i) (cs i)
@@ -135,7 +117,7 @@ covered z w h cs I i p b u = by-test (isOut (w .rooms i .standing)) refl
         let l : leaseOf (w .rooms i) ≡ lease z = ap (λ (y : Settings). lease y) (I .own i b .settings) in
         omega arith
 
-    by-test : (o : Bool) → isOut (w .rooms i .standing) ≡ o → covers (entry (w .server .profiles) i p) (modeOf (w .rooms i) p) ≡ true
+    by-test : (o : Bool) → isOut (w .rooms i .standing) ≡ o → covers (serverMode (w .server) i p) (modeOf (w .rooms i) p) ≡ true
     by-test true e = absurd (none-is-no-mode (modeOf (w .rooms i) p) (J .empty e p) (both .0))
     by-test false e = J .cover e (held-known (past h i) (statusOf (w .server) i) (w .rooms i .start) (J .lease e lasts)) p
 
@@ -160,7 +142,7 @@ module _ (z : Settings) (good : inRange z ≡ true) (W : ℕ) (enough : lease z 
   passes t h w clocks I = record {
     pair = λ i b. later (lease z) (I .pair i b) (on h i b clocks) (λ τ y x. (x .0, List·Memᴰ·tail (x .1), x .2, x .3)) (λ m x. x) (λ m x. x);
     own = I .own;
-    kept = I .kept;
+    server = I .server;
   }
     where
       on : (h : List Moment) (i : ℕ) → i < z .stations → Kept-time z t h → clockOf h i ≤ t .rooms i
@@ -187,8 +169,8 @@ module _ (z : Settings) (good : inRange z ≡ true) (W : ℕ) (enough : lease z 
       Sound z (next W w t e) (t ∷ h) (t .rooms)
   unfolding next
   steps t h w clocks I nothing k = I
-  steps t h w clocks I ticks k = tick-sound z good W w (t ∷ h) (t .rooms) I (t .server) (λ i. (t, List·Memᴰ·head refl, refl, refl)) (over t h clocks)
-  steps t h w clocks I (hears m) k = hears-sound z good w (t ∷ h) (t .rooms) I m k (t .server) W
+  steps t h w clocks I ticks k = tick-sound z W w (t ∷ h) (t .rooms) I (t .server) (λ i. (t, List·Memᴰ·head refl, refl, refl)) (over t h clocks)
+  steps t h w clocks I (hears m) k = hears-sound z w (t ∷ h) (t .rooms) I (t .server) W m k
   steps t h w clocks I (gets i m) k = gets-sound z w (t ∷ h) (t .rooms) I i (k .0) m (k .1)
   steps t h w clocks I (does i e) k = does-sound z w (t ∷ h) (t .rooms) I i (k .0) e (k .1)
   steps t h w clocks I (asks i) k = I
@@ -204,10 +186,9 @@ module _ (z : Settings) (good : inRange z ≡ true) (W : ℕ) (enough : lease z 
   safe-with t h P i j p bi bj ne ui uj =
       let I = sound P in
       let w = run z W (t ∷ h) in
-      let most = ranges z good .counts .stations-most in
-      both-covered-go (entry (w .server .profiles) i p) (modeOf (w .rooms i) p) (entry (w .server .profiles) j p) (modeOf (w .rooms j) p)
+      both-covered-go (serverMode (w .server) i p) (modeOf (w .rooms i) p) (serverMode (w .server) j p) (modeOf (w .rooms j) p)
       (covered z w (t ∷ h) (t .rooms) I i p bi ui) (covered z w (t ∷ h) (t .rooms) I j p bj uj)
-      (I .kept .apart i j p (omega arith) (omega arith) ne)
+      (I .server .tables .apart i j p ne)
 
 -- Condition 3, with the wait W
 pub safe : Safe

@@ -1,8 +1,9 @@
 -- What the server does where nothing is refused.
-use mathlib.Core.Path.{_≡_, ap, _∙_}
-use mathlib.Core.Bool.{Bool, true}
+-- Assumes nothing.
+use mathlib.Core.Path.{_≡_, refl, ap}
+use mathlib.Core.Bool.{true}
 use Prim.Native.Nat.{ℕ, _<_, _≤_}
-use borrow.Author.Tests.{lt-ltb, le-ltb}
+use borrow.Author.Tests.{le-ltb}
 use Rattle.timing.specs.Limits.{readingLimit}
 use Rattle.timing.specs.declared.settings.Settings.{Settings}
 use Rattle.timing.specs.Settings.{inRange}
@@ -12,10 +13,11 @@ use Rattle.server.specs.declared.event.Event.the-variants.{Message, Tick}
 use Rattle.requests.specs.declared.Request.{Request}
 use Rattle.server.specs.State.{memberAt, profileAt, lastOf, statusOf}
 use Rattle.server.specs.Sets.{liveSet}
-use Rattle.server.specs.Hear.{byStatus, numbered, ifNew, hear}
+use Rattle.server.specs.Hear.{byStatus, numbered}
 use Rattle.server.specs.Refusal.{eventRefusal, refusal}
 use Rattle.requests.specs.Request.{profileOf}
-use Rattle.server.specs.Step.{afterHeard, message, tick, ifGood, step}
+use Rattle.server.specs.Step.{afterHeard, tick, ifGood, step}
+use Rattle.server.proofs.Heard.{judged}
 
 module _ (z : Settings) (good : inRange z ≡ true) where
   pub free : (last now : ℕ) (e : Event) → eventRefusal z e ≡ 0 → now ≤ readingLimit → last ≤ now → refusal z last now e ≡ 0
@@ -31,7 +33,4 @@ module _ (wait : ℕ) (s : Server) (now : ℕ) where
       step wait s now (Message i number q)
       ≡ afterHeard s now i (profileOf q)
       (byStatus (statusOf s i) (liveSet (s .members)) now i q (numbered number (memberAt s i)) (profileAt s (profileOf q)))
-  unfolding step message hear ifNew
-  heard i number q free new =
-      ap (λ (n : ℕ). ifGood n wait s now (Message i number q)) free
-      ∙ ap (λ (b : Bool). afterHeard s now i (profileOf q) (ifNew b (liveSet (s .members)) now i number q (memberAt s i) (profileAt s (profileOf q)))) (lt-ltb (lastOf s i) number new)
+  heard i number q free new = judged wait s now i number q free new (statusOf s i) refl

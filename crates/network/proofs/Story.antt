@@ -1,4 +1,5 @@
 -- Permitted histories, made step by step: what server and rooms are at their end, and what is known of all their moments.
+-- Assumes nothing.
 use mathlib.Core.Path.{_≡_, refl, sym, subst, ap, _∙_}
 use mathlib.Core.Bool.{Bool, true, false, cond}
 use mathlib.Core.List.{List, [], _∷_, _++_, List·Memᴰ, List·Memᴰ·cases-cons, List·Memᴰ·head}

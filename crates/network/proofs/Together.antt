@@ -1,4 +1,5 @@
 -- Clocks that all read the same, at every moment up to t, keep the premises.
+-- Assumes nothing.
 use mathlib.Core.Path.{_≡_, refl}
 use Prim.Native.Nat.{ℕ, _-_, _*_, _<_, _≤_}
 use native.Mathlib.Omega.{arith}

@@ -1,4 +1,5 @@
 -- What a reader owns, taken apart: its slice and its place for a callee, and the whole again, since a reader is Copy.
+-- Assumes nothing.
 use mathlib.Core.Path.{_≡_, refl}
 use Prim.Native.Nat.{_<_, _^_}
 use mathlib.Core.List.{List, [], _∷_}

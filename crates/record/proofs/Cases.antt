@@ -1,4 +1,5 @@
 -- "Station 3 asks number 258, profile 5, mode W: B7 1E 03 03 00 00 01 02 05 04 00. The same with mode 7 is 18."
+-- Assumes nothing.
 use Prim.Native.Nat.{ℕ}
 use mathlib.Core.Path.{_≡_, refl}
 use mathlib.Core.List.{List, [], _∷_}

@@ -1,4 +1,5 @@
 -- A record put into the front of the room that is left is a record put at the place.
+-- Assumes nothing.
 use Prim.Native.Nat.{ℕ, _+_, _-_, _≤_, min}
 use mathlib.Core.Path.{_≡_, refl, ap}
 use mathlib.Core.List.{List, [], append-nil}

@@ -1,10 +1,11 @@
 -- A run that was written is read back, record by record.
+-- Assumes nothing.
 use Prim.Native.Nat.{ℕ, zero, suc, _+_, _*_, _^_, _<_}
 use mathlib.Core.Path.{_≡_, refl, sym, ap, _∙_}
 use mathlib.Core.List.{List, [], _∷_, _++_}
 use native.Mathlib.Nat.{add-zero, zero-add, suc-add}
 use native.Mathlib.Omega.{arith}
-use lib.ListN.{length, getD, take, drop, length-append, length-drop}
+use lib.ListN.{getD, take, drop}
 use lib.Seq.{take-take, take-at, length-take-le, take-nil}
 use Rattle.record.specs.declared.message.Message.{Message}
 use Rattle.record.specs.declared.put.Put.{Put}
@@ -19,9 +20,6 @@ use Rattle.record.proofs.Round.{put-then-read}
 
 -- ---- one record
 module _ (m : Message) (at : ℕ) (l : List ℕ) (next : ℕ) (e : putAnswer m at l ≡ put.Next next) where
-  put-length : length (putContent m at l) ≡ length l
-  put-length = let a = accepted m at l next e in simp e (simp (length-append, length-take-le at l (omega arith), length-drop) (omega arith))
-
   put-before : take at (putContent m at l) ≡ take at l
   put-before = let a = accepted m at l next e in simp e (take-at (take at l) (bytesOf m ++ drop (at + 11) l) at (length-take-le at l (omega arith)))
 

@@ -1,4 +1,5 @@
 -- What an answer says in the paper's numbers tells the answer: nothing is lost on the way.
+-- Assumes nothing.
 use Prim.Native.Nat.{ℕ}
 use mathlib.Core.Path.{_≡_, refl, sym, ap, _∙_}
 use mathlib.Core.List.{List}

@@ -1,4 +1,5 @@
 -- Each way through the reader's rule, from what its tests say.
+-- Assumes nothing.
 use Prim.Native.Nat.{ℕ, _<_, _≤_}
 use mathlib.Core.Path.{_≡_}
 use mathlib.Core.List.{List}

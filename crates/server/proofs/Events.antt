@@ -21,7 +21,7 @@ use Rattle.server.specs.Refusal.{Event, Message, refusal}
 use Rattle.requests.specs.Request.{profileOf}
 use Rattle.server.specs.Step.{afterHeard, atReading, ifGood, step}
 use Rattle.server.proofs.Frames.{mode-wiped, width-wiped}
-use Rattle.server.proofs.Marks.{markAt, mark-anywhere, mark-eased, all-eased, mark-wiped, marks-wiped}
+use Rattle.server.proofs.Marks.{markAt, mark-changed, mark-eased, all-eased, mark-wiped, marks-wiped}
 use Rattle.server.proofs.Serves.{Sized, Accepted, at, changedAt, allOf, own, allOn, noLock, Told, along, by-tables}
 use Rattle.server.proofs.Heard.{on-changed, on-itself, set-at, only-has, greets, by-newness, judged, inside, one-profile, only-number, only-marks}
 use Rattle.server.proofs.InTheWay.{none-clashes, any-both, wantedOn, isInTheWay, holders, keptHolders, liveHolders, has-demanded, isDemanded}
@@ -163,7 +163,7 @@ module _ (wait : ℕ) (s : Server) (now i k : ℕ) (sized : Sized s) where
           ask-wait held kept =
               only-marks wait s now i k (Ask p asked) accepted sized _ (demand now) (liveHolders s i p (asked .0))
               (λ (b : Bool) (j : ℕ). b && (isInTheWay s i p (asked .0) j && isLive (statusOf s j))) (λ j. refl)
-              (λ j. mark-anywhere (demand now) (liveHolders s i p (asked .0)) (profileAt s p .marks) beyond j
+              (λ j. mark-changed (demand now) (liveHolders s i p (asked .0)) (profileAt s p .marks) j (beyond j)
               ∙ ap (λ (b : Bool). cond b (demand now (markOf s j p)) (markOf s j p)) (has-demanded s i p (asked .0) j))
               (kept-or-wait false held kept)
             where

@@ -5,12 +5,11 @@ use mathlib.Core.Bool.{Bool, true, false, _&&_, _||_, not, false≢true}
 use mathlib.Core.List.{List, [], _∷_}
 use Prim.Native.Nat.{ℕ, zero, suc, _+_}
 use native.Mathlib.Nat.{zero-add}
-use native.Mathlib.Omega.{arith}
 use lib.Dec.{eqb}
 use lib.ListN.{getD}
 use borrow.Author.Tests.{not-false, eqb-false, ne-eqb}
-use Rattle.masks.specs.Mask.{Set, any, both, thoseAt, those}
-use Rattle.masks.proofs.Sets.{has, has-both, has-none}
+use Rattle.masks.specs.Mask.{Set, any, both}
+use Rattle.masks.proofs.Sets.{has, no-right, has-both, has-none, has-at, has-those}
 use Rattle.modes.specs.Modes.{mode, goesWith}
 use Rattle.modes.specs.declared.Mode.{Mode}
 use Rattle.modes.proofs.Laws.{symmetric, none-goes}
@@ -18,24 +17,8 @@ use Rattle.server.specs.State.{Marked, Member, Server, nobody, noMark, p
 use Rattle.server.specs.Sets.{isLive, isKept, liveSet, marksWith, clashes, conflicts}
 use Rattle.server.specs.Ask.{wantedBy, inTheWay}
 
-pub no-right : (a : Bool) → (a && false) ≡ false
-no-right true = refl
-no-right false = refl
-
--- whose element passes a test, where what stands beyond the list does not
-module _ {A : Type 0} (d : A) where
-  pub has-passing : (test : A → Bool) → test d ≡ false → (xs : List A) (j : ℕ) → has (those test xs) j ≡ test (getD xs j d)
-  has-passing test none [] j = sym none
-  has-passing test none (x ∷ xs) zero = refl
-  has-passing test none (x ∷ xs) (suc j) = has-passing test none xs j
-
-  has-passing-at : (test : ℕ → A → Bool) → ((n : ℕ) → test n d ≡ false) → (k : ℕ) (xs : List A) (j : ℕ) → has (thoseAt test k xs) j ≡ test (k + j) (getD xs j d)
-  has-passing-at test none k [] j = sym (none (k + j))
-  has-passing-at test none k (x ∷ xs) zero = ap (λ (n : ℕ). test n x) (omega arith)
-  has-passing-at test none k (x ∷ xs) (suc j) = has-passing-at test none (suc k) xs j ∙ ap (λ (n : ℕ). test n (getD xs j d)) (omega arith)
-
 pub has-live : (ms : List Member) (j : ℕ) → has (liveSet ms) j ≡ isLive (getD ms j nobody .status)
-has-live ms j = has-passing nobody (λ (m : Member). isLive (m .status)) refl ms j
+has-live ms j = has-those (λ (m : Member). isLive (m .status)) nobody ms j (λ h. refl)
 
 -- no lock goes with every mode
 pub none-clashes : (me wanted j : ℕ) → clashes me wanted j (mode 0) ≡ false
@@ -44,7 +27,7 @@ none-clashes me wanted j = ap (λ (b : Bool). not (eqb j me) && not b) (symmetri
 pub has-conflicts : (me wanted : ℕ) (row : List Mode) (j : ℕ) → has (conflicts me wanted row) j ≡ clashes me wanted j (getD row j (mode 0))
 unfolding conflicts
 has-conflicts me wanted row j =
-    has-passing-at (mode 0) (clashes me wanted) (none-clashes me wanted) 0 row j ∙ ap (λ (n : ℕ). clashes me wanted n (getD row j (mode 0))) (zero-add j)
+    has-at (clashes me wanted) (mode 0) 0 row j (λ h. none-clashes me wanted (0 + j)) ∙ ap (λ (n : ℕ). clashes me wanted n (getD row j (mode 0))) (zero-add j)
 
 -- nobody in a set, or somebody
 any-none : (t : Set) → ((j : ℕ) → has t j ≡ false) → any t ≡ false
@@ -93,7 +76,7 @@ module _ (s : Server) (i p asked : ℕ) where
   pub has-kept : (j : ℕ) → has (keptHolders s i p asked) j ≡ (isInTheWay s i p asked j && isKept (markOf s j p))
   has-kept j =
       of-holders (marksWith isKept (profileAt s p .marks)) j (isKept (markOf s j p))
-      (has-passing noMark (λ (m : Marked). isKept (m .mark)) refl (profileAt s p .marks) j)
+      (has-those (λ (m : Marked). isKept (m .mark)) noMark (profileAt s p .marks) j (λ h. refl))
 
   pub has-demanded : (j : ℕ) → has (liveHolders s i p asked) j ≡ (isInTheWay s i p asked j && isLive (statusOf s j))
   has-demanded j = of-holders (liveSet (s .members)) j (isLive (statusOf s j)) (has-live (s .members) j)

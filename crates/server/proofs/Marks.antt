@@ -4,24 +4,15 @@ use mathlib.Core.Path.{_≡_, refl, sym, ap, _∙_}
 use mathlib.Core.Bool.{Bool, true, false, cond}
 use mathlib.Core.List.{List, [], _∷_, map}
 use Prim.Native.Nat.{ℕ, zero, suc, _<_, _≤_}
-use native.Mathlib.Omega.{arith}
 use lib.Dec.{eqb}
 use lib.ListN.{length, getD, set, replicate}
 use lib.Seq.{getD-set-same, getD-set-other}
 use borrow.Author.Tests.{eqb-true, eqb-false}
-use Rattle.masks.specs.Mask.{Set, changeIn}
+use Rattle.masks.specs.Mask.{Set}
 use Rattle.masks.proofs.Sets.{has, changed, length-changed}
 use Rattle.server.specs.State.{Mark, Unmarked, Marked, Profile, noMark, noProfile, markIn}
 use Rattle.server.specs.Sets.{wipeMark, remark, marksChanged, wiped}
-use Rattle.server.proofs.Frames.{Whole, whole-wiped, whole-set}
-
--- a change in a set, at any place: beyond the list, where it changes nothing there
-pub changed-anywhere : {A : Type 0} (f : A → A) (d : A) (s : Set) (xs : List A) → ((j : ℕ) → length xs ≤ j → cond (has s j) (f d) d ≡ d) →
-    (j : ℕ) → getD (changeIn f s xs) j d ≡ cond (has s j) (f (getD xs j d)) (getD xs j d)
-changed-anywhere f d [] xs ends j = refl
-changed-anywhere f d (b ∷ s) [] ends j = sym (ends j (omega arith))
-changed-anywhere f d (b ∷ s) (x ∷ xs) ends zero = refl
-changed-anywhere f d (b ∷ s) (x ∷ xs) ends (suc j) = changed-anywhere f d s xs (λ j h. ends (suc j) (omega arith)) j
+use Rattle.server.proofs.Frames.{cond-same, Whole, whole-wiped, whole-set}
 
 -- the mark of station j in a row of marks, and on profile p in a list of profiles
 abbrev pub markAt : List Marked → ℕ → Mark
@@ -37,12 +28,9 @@ module _ (f : Mark → Mark) where
   chosen false m = refl
 
   module _ (s : Set) (marks : List Marked) where
-    pub mark-changed : (j : ℕ) → j < length marks → markAt (marksChanged f s marks) j ≡ cond (has s j) (f (markAt marks j)) (markAt marks j)
-    mark-changed j h = ap (λ (m : Marked). m .mark) (changed (remark f) noMark s marks j h) ∙ chosen (has s j) (getD marks j noMark)
-
-    pub mark-anywhere : ((j : ℕ) → length marks ≤ j → cond (has s j) (remark f noMark) noMark ≡ noMark) →
-        (j : ℕ) → markAt (marksChanged f s marks) j ≡ cond (has s j) (f (markAt marks j)) (markAt marks j)
-    mark-anywhere ends j = ap (λ (m : Marked). m .mark) (changed-anywhere (remark f) noMark s marks ends j) ∙ chosen (has s j) (getD marks j noMark)
+    pub mark-changed : (j : ℕ) → (length marks ≤ j → cond (has s j) (remark f noMark) noMark ≡ noMark) →
+        markAt (marksChanged f s marks) j ≡ cond (has s j) (f (markAt marks j)) (markAt marks j)
+    mark-changed j ends = ap (λ (m : Marked). m .mark) (changed (remark f) noMark s marks j ends) ∙ chosen (has s j) (getD marks j noMark)
 
     pub marks-length : length (marksChanged f s marks) ≡ length marks
     marks-length = length-changed (remark f) s marks
@@ -50,7 +38,7 @@ module _ (f : Mark → Mark) where
   -- a rule that makes no mark where there is none
   module _ (eases : f Unmarked ≡ Unmarked) where
     pub mark-eased : (s : Set) (marks : List Marked) (j : ℕ) → markAt (marksChanged f s marks) j ≡ cond (has s j) (f (markAt marks j)) (markAt marks j)
-    mark-eased s marks j = mark-anywhere s marks (λ j h. none (has s j)) j
+    mark-eased s marks j = mark-changed s marks j (λ h. none (has s j))
       where
         none : (b : Bool) → cond b (remark f noMark) noMark ≡ noMark
         none true = ap (λ (m : Mark). record { mark = m }) eases
@@ -72,11 +60,7 @@ unfolding wiped
 marks-wiped s x = marks-length wipeMark s (x .marks)
 
 pub mark-entry-wiped : (s : Set) (t : List Profile) (j p : ℕ) → markEntry (map (wiped s) t) j p ≡ cond (has s j) Unmarked (markEntry t j p)
-mark-entry-wiped s [] j p = none (has s j)
-  where
-    none : (b : Bool) → Unmarked ≡ cond b Unmarked Unmarked
-    none true = refl
-    none false = refl
+mark-entry-wiped s [] j p = sym (cond-same (has s j) Unmarked)
 mark-entry-wiped s (x ∷ t) j zero = mark-wiped s x j
 mark-entry-wiped s (x ∷ t) j (suc p) = mark-entry-wiped s t j p
 

@@ -19,14 +19,13 @@ use Rattle.server.specs.Hear.{Request, Hello, Ask}
 use Rattle.server.specs.Refusal.{Event, Message, Tick}
 use Rattle.requests.specs.Request.{profileOf}
 use Rattle.server.specs.Step.{Served, step}
-use Rattle.server.proofs.Frames.{startedTo, freedTo}
 use Rattle.server.proofs.Refusals.{station-below, profile-below}
 use Rattle.server.proofs.Serves.{Sized, Accepted, at, changedAt, allOf, own, allOn, noLock, Serves, at-other}
 use Rattle.server.proofs.InTheWay.{none-clashes, wantedOn, isInTheWay, isDemanded, free-goes}
 use Rattle.server.proofs.Events.{refused, stale, nack-0, nack-1, hello, keep-alive, release, keep, ask-granted, ask-in-use, ask-wait}
 use Rattle.server.proofs.Orderly.{Nothing, Orderly, lessened, given}
 use Rattle.server.proofs.Cases.{Case, case-of}
-use Rattle.server.proofs.Ticks.{isLateIn, ticks}
+use Rattle.server.proofs.Ticks.{freedTo, startedTo, isLateIn, ticks}
 
 -- from a new server by any events, at any readings, with any wait
 pub data Reachable (z : Settings) : Server → Type 0 where
@@ -92,7 +91,7 @@ module _ (z : Settings) where
   unfolding newServer
   new-settings = refl
 
-  sound-new : Sound z (newServer z)
+  pub sound-new : Sound z (newServer z)
   sound-new =
       record {
         settings = new-settings;
@@ -162,7 +161,7 @@ module _ (z : Settings) (wait : ℕ) (s : Server) (now : ℕ) (g : Sound z s) wh
       outside false = refl
 
   -- the message's station and profile are among those of the settings
-  below : (i k : ℕ) (q : Request) → Accepted s now (Message i k q) → (i < z .stations) × (profileOf q < z .profiles)
+  pub below : (i k : ℕ) (q : Request) → Accepted s now (Message i k q) → (i < z .stations) × (profileOf q < z .profiles)
   below i k q a =
       subst (λ (y : Settings). (i < y .stations) × (profileOf q < y .profiles)) (g .settings)
       (station-below (s .settings) (s .reading) now i k q a, profile-below (s .settings) (s .reading) now i k q a)
@@ -190,7 +189,10 @@ module _ (z : Settings) (wait : ℕ) (s : Server) (now : ℕ) (g : Sound z s) wh
       quiet never (isDemanded s i p (asked .0)) (demand now) (λ j q e k. absurd (demanded-holds s i p (asked .0) j q e k))
       (ask-wait wait s now i k (g .lengths) new live p asked a held kept)
 
+pub step-sound : (z : Settings) (wait : ℕ) (s : Server) (now : ℕ) (e : Event) → Sound z s → Sound z (step wait s now e .server)
+step-sound z wait s now e g = sound-case z wait s now g (case-of s now e)
+
 -- every reachable server is sound
 pub sound : {z : Settings} {s : Server} → Reachable z s → Sound z s
 sound {z} first = sound-new z
-sound {z} (next {s} wait now e r) = sound-case z wait s now (sound r) (case-of s now e)
+sound {z} (next {s} wait now e r) = step-sound z wait s now e (sound r)

@@ -6,17 +6,17 @@ use mathlib.Core.List.{List, [], _∷_, map}
 use Prim.Native.Nat.{ℕ, zero, suc, _≤_}
 use lib.ListN.{length, getD, List·getD-eq-default}
 use Rattle.masks.specs.Mask.{Set, mask}
-use Rattle.masks.proofs.Sets.{has, has-both, has-either, length-changed}
+use Rattle.masks.proofs.Sets.{has, no-right, has-both, has-either, has-those, changed, length-changed}
 use Rattle.server.specs.State.{Status, Unknown, TimingOut, Unmarked, Marked, Member, Profile, Server, nobody, noMark, markIn, statusOf, lastOf, modeOf, markOf}
 use Rattle.server.specs.Sets.{isLive, isWaited, isLate, lateSet, restatus, turned, liveSet, marksWith, wiped, wipeMark}
 use Rattle.server.specs.Ask.{Ticked}
 use Rattle.server.specs.Refusal.{Tick}
 use Rattle.server.specs.Tick.{freedSet, free, startedSet, start}
 use Rattle.server.specs.Step.{tick, ifGood, step}
-use Rattle.server.proofs.Frames.{entry-wiped, startedTo, freedTo, ticked-members}
-use Rattle.server.proofs.Marks.{changed-anywhere, markEntry, full-wiped, mark-entry-wiped}
+use Rattle.server.proofs.Frames.{entry-wiped}
+use Rattle.server.proofs.Marks.{markEntry, full-wiped, mark-entry-wiped}
 use Rattle.server.proofs.Serves.{Sized, Accepted, changedAt, noLock, Serves, along}
-use Rattle.server.proofs.InTheWay.{no-right, has-passing, has-live}
+use Rattle.server.proofs.InTheWay.{has-live}
 
 -- whether any number below n passes
 abbrev pub some : ℕ → (ℕ → Bool) → Bool
@@ -37,13 +37,20 @@ has-late : (answer now : ℕ) (t : List Profile) (j : ℕ) → has (lateSet answ
 has-late answer now [] j = refl
 has-late answer now (x ∷ t) j =
     has-either (marksWith (isLate answer now) (x .marks)) (lateSet answer now t) j
-    ∙ ap (λ (b : Bool). b || has (lateSet answer now t) j) (has-passing noMark (λ (m : Marked). isLate answer now (m .mark)) refl (x .marks) j)
+    ∙ ap (λ (b : Bool). b || has (lateSet answer now t) j) (has-those (λ (m : Marked). isLate answer now (m .mark)) noMark (x .marks) j (λ h. refl))
     ∙ ap (λ (b : Bool). isLate answer now (markIn x j) || b) (has-late answer now t j)
+
+-- a status after freeing, and after starting
+abbrev pub freedTo : ℕ → ℕ → Status → Status
+freedTo wait now σ = cond (isWaited wait now σ) Unknown σ
+
+abbrev pub startedTo : ℕ → Bool → Status → Status
+startedTo now late σ = cond (late && isLive σ) (TimingOut now) σ
 
 -- statuses turned in a set that ends with the members; their numbers are as they were
 module _ (σ : Status) (set : Set) (ms : List Member) (ends : (j : ℕ) → length ms ≤ j → has set j ≡ false) (j : ℕ) where
   turned-member : getD (turned σ set ms) j nobody ≡ cond (has set j) (restatus σ (getD ms j nobody)) (getD ms j nobody)
-  turned-member = changed-anywhere (restatus σ) nobody set ms (λ j h. ap (λ (b : Bool). cond b (restatus σ nobody) nobody) (ends j h)) j
+  turned-member = changed (restatus σ) nobody set ms j (λ h. ap (λ (b : Bool). cond b (restatus σ nobody) nobody) (ends j h))
 
   turned-status : getD (turned σ set ms) j nobody .status ≡ cond (has set j) σ (getD ms j nobody .status)
   turned-status = ap (λ (m : Member). m .status) turned-member ∙ chosen (has set j) (getD ms j nobody)
@@ -69,7 +76,7 @@ freed-profiles wait s now = map (wiped (freedSet wait now s)) (s .profiles)
 module _ (wait : ℕ) (s : Server) (now : ℕ) (sized : Sized s) where
   -- who is in the two sets that a tick answers: those freed
   pub has-freed : (j : ℕ) → has (freedSet wait now s) j ≡ isWaited wait now (statusOf s j)
-  has-freed j = has-passing nobody (λ (m : Member). isWaited wait now (m .status)) refl (s .members) j
+  has-freed j = has-those (λ (m : Member). isWaited wait now (m .status)) nobody (s .members) j (λ h. refl)
 
   freed-ends : (j : ℕ) → length (s .members) ≤ j → has (freedSet wait now s) j ≡ false
   freed-ends j h = has-freed j ∙ ap (λ (m : Member). isWaited wait now (m .status)) (List·getD-eq-default (s .members) nobody h)
@@ -121,7 +128,7 @@ module _ (wait : ℕ) (s : Server) (now : ℕ) (sized : Sized s) where
         answers = refl;
         settings = refl;
         reading = refl;
-        lengths = record { members = ticked-members wait s now ∙ sized .members; profiles = full-wiped freed (s .profiles) (sized .profiles) };
+        lengths = record { members = length-changed (restatus (TimingOut now)) started ms ∙ length-changed (restatus Unknown) freed (s .members) ∙ sized .members; profiles = full-wiped freed (s .profiles) (sized .profiles) };
         status = λ j.
             turned-status (TimingOut now) started ms started-ends j
             ∙ ap (λ (b : Bool). cond b (TimingOut now) (getD ms j nobody .status)) (has-started j)

@@ -12,12 +12,11 @@ use Rattle.server.specs.Ask.{Answer}
 use Rattle.server.specs.Refusal.{Event, Message, Tick}
 use Rattle.server.specs.Hear.{Hello, KeepAlive, Ask, Release, Keep}
 use Rattle.server.specs.Step.{Served, step}
-use Rattle.server.proofs.Frames.{startedTo, freedTo}
 use Rattle.server.proofs.Refusals.{reading-good}
 use Rattle.server.proofs.Serves.{Sized, Accepted, at, changedAt, allOf, own, allOn, Serves}
 use Rattle.server.proofs.InTheWay.{isDemanded}
 use Rattle.server.proofs.Events.{refused, stale, nack-0, nack-1, hello, keep-alive, release, keep, ask-granted, ask-in-use, ask-wait}
-use Rattle.server.proofs.Ticks.{isLateIn, ticks}
+use Rattle.server.proofs.Ticks.{freedTo, startedTo, isLateIn, ticks}
 use Rattle.server.proofs.Cases.{Case, case-of}
 use Rattle.server.proofs.Reachable.{Reachable, first, next, new-unknown, new-nothing, sound}
 
