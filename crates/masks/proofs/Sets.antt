@@ -67,10 +67,3 @@ module _ {A : Type 0} where
   length-changed f [] xs = refl
   length-changed f (b ∷ s) [] = refl
   length-changed f (b ∷ s) (x ∷ xs) = ap suc (length-changed f s xs)
-
-  -- a change in a set of nobody is none
-  pub unchanged : (f : A → A) (s : Set) (xs : List A) → any s ≡ false → changeIn f s xs ≡ xs
-  unchanged f [] xs e = refl
-  unchanged f (false ∷ s) [] e = refl
-  unchanged f (false ∷ s) (x ∷ xs) e = ap (λ (l : List A). x ∷ l) (unchanged f s xs e)
-  unchanged f (true ∷ s) xs e = let z : _≡_ {A = ℕ} 0 1 = cc in absurd (omega arith)

@@ -1,7 +1,7 @@
 -- A loop that sets each element of a list in turn: what is done so far, and the definition of the rest.
 -- Assumes nothing.
 use mathlib.Core.Bool.{cond}
-use Prim.Native.Nat.{ℕ, zero, suc, _+_, _/_, _%_, _<_, _≤_}
+use Prim.Native.Nat.{ℕ, suc, _+_, _/_, _%_, _<_, _≤_}
 use lib.Dec.{eqb}
 use Rattle.masks.specs.Mask.{changeUnder}
 use mathlib.Core.Path.{_≡_, refl, sym, _∙_}
@@ -22,12 +22,6 @@ module _ {A : Type 0} (d : A) where
 
   pub end : (g : List A → List A) → g [] ≡ [] → (l : List A) (i : ℕ) → length l ≤ i → take i l ++ g (drop i l) ≡ l
   end g e l i p = rw (drop-of-length-le l p, e, append-nil, take-all i l p)
-
-  -- what lies past the end does not matter before it
-  pub default : (l : List A) (i : ℕ) (e : A) → i < length l → getD l i e ≡ getD l i d
-  default [] i e p = absurd (omega (arith, p))
-  default (x ∷ xs) zero e p = refl
-  default (x ∷ xs) (suc i) e p = default xs i e (omega (arith, p))
 
 pub mapped-length : {X Y : Type 0} (f : X → Y) (l : List X) (n : ℕ) → length (map f l) ≡ n → length l ≡ n
 mapped-length f l n e = sym (length-map l f) ∙ e

@@ -2,10 +2,8 @@
 use timing::reading::Reading;
 use timing::settings::Settings;
 ghost use mathlib.Core.Path.{_≡_};
-ghost use Rattle.masks.specs.Mask.{mask, changeUnder};
-ghost use Rattle.members.specs.Mark.{marksWith, remark};
-ghost use Rattle.members.specs.Mark.{markTest, markChange};
-ghost use Rattle.masks.specs.Mask.{lowest};
+ghost use Rattle.masks.specs.Mask.{mask, changeUnder, lowest};
+ghost use Rattle.members.specs.Mark.{marksWith, remark, markTest, markChange};
 
 pub enum Mark {
     Unmarked,

@@ -7,7 +7,7 @@ use Rattle.timing.specs.Reading.{orElse, readingRefusal}
 use Rattle.timing.specs.declared.settings.Settings.{Settings}
 use Rattle.timing.specs.Settings.{inRange}
 use Rattle.requests.specs.Request.{profileRefusal, pairRefusal, requestRefusal}
-use Rattle.room.specs.Event.{Request, Hello, KeepAlive, Ask, Release, Keep, Ack, Done, Granted, Wait, InUse, Event, Send, Begin, Edit, End, WriteOut, Restart, Acked, Nacked, Demand}
+use Rattle.room.specs.Event.{Ack, Done, Granted, Wait, InUse, Event, Send, Begin, Edit, End, WriteOut, Restart, Acked, Nacked, Demand}
 
 -- "8 demand: number 0, profile, mode 2 to 6"
 abbrev pub isWanted : ℕ → Bool

@@ -6,8 +6,7 @@ use Rattle.modes.specs.Modes.{covers, writes}
 use Rattle.room.specs.Event.{Request, Hello, KeepAlive, Ask, Release, Keep, Waiting, Nothing, Sent, Ack, Done, Granted, Wait, InUse}
 use Rattle.room.specs.Hold.{Hold, mostStarted}
 use Rattle.room.specs.Stage.{Stage}
-use Rattle.timing.specs.Reading.{passed}
-use Rattle.timing.specs.Reading.{orElse}
+use Rattle.timing.specs.Reading.{passed, orElse}
 
 abbrev pub lastNumber : ℕ
 lastNumber = 4_294_967_295

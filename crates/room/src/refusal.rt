@@ -5,10 +5,8 @@ use modes::Mode;
 use timing::reading::Reading;
 use timing::settings::Settings;
 ghost use mathlib.Core.Path.{_≡_};
-ghost use Rattle.modes.specs.Modes.{isMode};
-ghost use Rattle.requests.specs.Request.{profileRefusal, pairRefusal, requestRefusal};
+ghost use Rattle.requests.specs.Request.{pairRefusal};
 ghost use Rattle.room.specs.Refusal.{isWanted, ackRefusal, namedRefusal, stationOf, ownRefusal, refusal, useRefusal, phaseRefusal};
-ghost use Rattle.timing.specs.Reading.{readingRefusal};
 
 // A demand is never in mode M.
 fn demand_refusal(profiles: u64, profile: u8, mode: Mode) -> u8

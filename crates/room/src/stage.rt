@@ -3,7 +3,6 @@ use timing::settings::Phase;
 use timing::settings::Settings;
 ghost use mathlib.Core.Path.{_≡_};
 ghost use Prim.Native.Nat.{_-_};
-ghost use Rattle.timing.specs.Reading.{passed};
 ghost use Rattle.room.specs.Stage.{isOut, openPhase, closingPhase, phaseAt, stageAt};
 
 pub enum Standing {

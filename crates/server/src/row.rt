@@ -3,10 +3,9 @@ use modes::Mode;
 use timing::settings::Settings;
 ghost use mathlib.Core.Path.{_≡_};
 ghost use lib.ListN.{getD, set};
-ghost use Rattle.masks.specs.Mask.{mask, changeUnder};
+ghost use Rattle.masks.specs.Mask.{mask, changeUnder, lowest};
 ghost use Rattle.modes.specs.Modes.{mode};
 ghost use Rattle.server.specs.Sets.{clashes, conflicts, noMode};
-ghost use Rattle.masks.specs.Mask.{lowest};
 
 // Whether station `j`, which holds `held`, is another than `me` and stands in the way of `wanted`.
 fn clash(me: usize, wanted: Mode, j: usize, held: Mode) -> bool

@@ -8,7 +8,7 @@ use Rattle.requests.specs.Request.{profileOf}
 use Rattle.modes.specs.Modes.{isMode}
 use Rattle.timing.specs.declared.settings.Settings.{Settings}
 use Rattle.timing.specs.Settings.{lease}
-use Rattle.station.specs.Event.{Request, Hello, KeepAlive, Ask, Release, Keep, Nothing, Event, Send, Begin, Edit, End, WriteOut, Restart, Acked, Nacked, Demand, Hold, Out, Stage}
+use Rattle.station.specs.Event.{Nothing, Event, Send, Begin, Edit, End, WriteOut, Restart, Acked, Nacked, Demand, Hold, Out, Stage}
 use Rattle.room.specs.Hold.{noHolds, holdIn, unwrittenSet}
 use Rattle.room.specs.Stage.{isOut, phaseAt, stageAt}
 use Rattle.timing.specs.Reading.{passed}

@@ -22,7 +22,6 @@ ghost use Rattle.station.specs.Effect.{numberFree, countFree};
 ghost use Rattle.room.specs.Stage.{isOut};
 ghost use Rattle.timing.specs.Reading.{passed};
 ghost use Rattle.station.specs.Station.{isRestart, lostIf, endedIf, forbids, after, made, step, judged, phaseAsked, mayUse};
-ghost use Rattle.requests.specs.Request.{profileOf};
 ghost use Rattle.station.specs.Said.{told, saidPhase, saidUse};
 
 pub struct Station {

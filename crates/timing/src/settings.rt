@@ -1,7 +1,6 @@
 // The settings that one server and its stations share, and what follows from them: the lease, the wait, the phases.
 use crate::lease::Lease;
 ghost use mathlib.Core.Path.{_≡_};
-ghost use Prim.Native.Nat.{ℕ};
 ghost use Rattle.timing.specs.Settings.{settings, lengthsGood, rateGood, countsGood, settingsRefusal, leaseAnswer, waitAnswer};
 ghost use Rattle.timing.specs.Phase.{saidPhase, phaseAfter};
 
