@@ -1,4 +1,5 @@
--- What is claimed of every permitted history. A moment is the latest of its history; every moment of a longer one is such a latest.
+-- What is claimed of every permitted history, in the words of condition 3, which are quoted. A moment is the latest of its history; every
+-- moment of a longer one is such a latest.
 use mathlib.Core.Path.{_≡_}
 use mathlib.Core.Bool.{true, false}
 use mathlib.Core.List.{List, _∷_}

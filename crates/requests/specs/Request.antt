@@ -33,13 +33,24 @@ requestRefusal profiles (Ask p m) = pairRefusal profiles p (isMode (m .0))
 requestRefusal profiles (Release p) = profileRefusal profiles p
 requestRefusal profiles (Keep p) = profileRefusal profiles p
 
+-- a request in the paper's numbers: whether anything is asked; kind, profile and mode of its message
+pub record SaidAsked : Type 0 where
+  pub good : Bool
+  pub kind : ℕ
+  pub profile : ℕ
+  pub mode : ℕ
+
 -- "1 hello and 2 keep-alive: 255, 0, 0. 3 ask: profile .., mode .., 0. 4 release and 5 keep: profile, 0, 0."
+abbrev pub saidRequest : Request → SaidAsked
+saidRequest Hello = record { good = true; kind = 1; profile = 255; mode = 0 }
+saidRequest KeepAlive = record { good = true; kind = 2; profile = 255; mode = 0 }
+saidRequest (Ask p m) = record { good = true; kind = 3; profile = p; mode = m .0 }
+saidRequest (Release p) = record { good = true; kind = 4; profile = p; mode = 0 }
+saidRequest (Keep p) = record { good = true; kind = 5; profile = p; mode = 0 }
+
 unfoldable pub messageOf : ℕ → ℕ → Request → Message
-messageOf station number Hello = message 1 station number 255 0 0
-messageOf station number KeepAlive = message 2 station number 255 0 0
-messageOf station number (Ask p m) = message 3 station number p (m .0) 0
-messageOf station number (Release p) = message 4 station number p 0 0
-messageOf station number (Keep p) = message 5 station number p 0 0
+messageOf station number q =
+    message (saidRequest q .kind) station number (saidRequest q .profile) (saidRequest q .mode) 0
 
 -- and back: "Only kinds 1 to 5 can be put to a server"
 abbrev pub askedAs : ℕ → Message → Asked
@@ -53,20 +64,6 @@ askedAs (suc (suc (suc (suc (suc (suc n)))))) m = Nothing
 
 unfoldable pub requestOf : Message → Asked
 requestOf m = askedAs (m .kind) m
-
--- what is asked in the paper's numbers: whether anything is; kind, profile and mode of its message
-pub record SaidAsked : Type 0 where
-  pub good : Bool
-  pub kind : ℕ
-  pub profile : ℕ
-  pub mode : ℕ
-
-abbrev pub saidRequest : Request → SaidAsked
-saidRequest Hello = record { good = true; kind = 1; profile = 255; mode = 0 }
-saidRequest KeepAlive = record { good = true; kind = 2; profile = 255; mode = 0 }
-saidRequest (Ask p m) = record { good = true; kind = 3; profile = p; mode = m .0 }
-saidRequest (Release p) = record { good = true; kind = 4; profile = p; mode = 0 }
-saidRequest (Keep p) = record { good = true; kind = 5; profile = p; mode = 0 }
 
 abbrev pub saidAsked : Asked → SaidAsked
 saidAsked (For q) = saidRequest q

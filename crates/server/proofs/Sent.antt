@@ -1,4 +1,4 @@
--- What a server hears of a request, and what it sends for an answer: the one ACK or NACK goes to the asker and has the number asked; demands are none.
+-- What a server hears of a request, and what it sends for an answer: the one ACK or NACK goes to the asker and has the number asked; no demand is an ACK.
 -- Assumes nothing.
 use mathlib.Core.Path.{_≡_, refl, sym, ap, _∙_}
 use mathlib.Core.Bool.{Bool, true, false}

@@ -10,13 +10,14 @@ use Rattle.requests.specs.declared.Asked.{Asked}
 use Rattle.requests.specs.declared.Asked.the-variants as asked
 use Rattle.requests.specs.Request.{requestOf, saidRequest}
 use Rattle.server.specs.Ask.{Answer, Done, Granted, Wait, InUse, Nack, Ticked, Refused}
-use Rattle.server.specs.Refusal.{Message as Said, Tick}
+use Rattle.server.specs.Refusal.{Message as Says, Tick}
+use Rattle.server.specs.Said.{Said, said}
 pub use Rattle.server.specs.declared.border.Meant.{Meant}
 pub use Rattle.server.specs.declared.border.Meant.the-variants.{For, NotForServer}
 
 -- "Only kinds 1 to 5 can be put to a server"
 abbrev pub meantBy : Message → Asked → Meant
-meantBy m (asked.For q) = For (Said (m .station) (m .number) q)
+meantBy m (asked.For q) = For (Says (m .station) (m .number) q)
 meantBy m asked.Nothing = NotForServer
 
 unfoldable pub eventOf : Message → Meant
@@ -32,7 +33,7 @@ pub record SaidMeant : Type 0 where
   pub mode : ℕ
 
 abbrev pub saidMeant : Meant → SaidMeant
-saidMeant (For (Said i k q)) =
+saidMeant (For (Says i k q)) =
     record {
       good = true;
       kind = saidRequest q .kind;
@@ -54,13 +55,17 @@ demandsFrom zero j mask profile wanted = []
 demandsFrom (suc n) j mask profile wanted =
     firstIf (eqb (mask % 2) 1) (message 8 j 0 profile wanted 0) (demandsFrom n (suc j) (mask / 2) profile wanted)
 
+-- the ACK or NACK to message `number` of a station, as the answer says it
+abbrev pub replyTo : ℕ → ℕ → Said → Message
+replyTo station number s = message (s .kind) station number (s .profile) (s .mode) (s .detail)
+
 -- the answer to message `number` of a station: the ACK or NACK first, then the demands in station order
 unfoldable pub sentFor : ℕ → ℕ → Answer → List Message
-sentFor station number Done = message 6 station number 255 0 0 ∷ []
-sentFor station number (Granted p m) = message 6 station number p (m .0) 1 ∷ []
+sentFor station number Done = replyTo station number (said Done) ∷ []
+sentFor station number (Granted p m) = replyTo station number (said (Granted p m)) ∷ []
 sentFor station number (Wait p m mask count) =
-    message 6 station number p 0 2 ∷ demandsFrom mostStations 0 mask p (m .0)
-sentFor station number (InUse p) = message 6 station number p 0 3 ∷ []
-sentFor station number (Nack d) = message 7 station number 255 0 d ∷ []
+    replyTo station number (said (Wait p m mask count)) ∷ demandsFrom mostStations 0 mask p (m .0)
+sentFor station number (InUse p) = replyTo station number (said (InUse p)) ∷ []
+sentFor station number (Nack d) = replyTo station number (said (Nack d)) ∷ []
 sentFor station number (Ticked freed started) = []
 sentFor station number (Refused n) = []

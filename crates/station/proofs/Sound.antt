@@ -279,7 +279,7 @@ pub new-sound : (z : Settings) (own : ℕ) → Sound (newStation z own)
 unfolding newStation
 new-sound z own = gone-sound (newStation z own) 0 (omega arith) (omega arith)
 
--- "any events at any readings"
+-- from a new station by any events at any readings
 pub data Reachable : Station → Type 0 where
   made : (z : Settings) (own : ℕ) → Reachable (newStation z own)
   moved : {s : Station} → Reachable s → (now : ℕ) (e : Event) → Reachable (step s now e .station)

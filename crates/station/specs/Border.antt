@@ -3,7 +3,7 @@ use mathlib.Core.Bool.{Bool, true, false}
 use mathlib.Core.List.{List, [], _∷_}
 use Prim.Native.Nat.{ℕ, zero, suc}
 use Rattle.modes.specs.Modes.{mode}
-use Rattle.requests.specs.Request.{messageOf}
+use Rattle.requests.specs.Request.{saidRequest, messageOf}
 use Rattle.record.specs.declared.message.Message.{Message}
 use Rattle.station.specs.Event.{Request, Hello, KeepAlive, Ask, Release, Keep, Ack, Done, Granted, Wait, InUse, Event, Send, Begin, Edit, End, WriteOut, Restart, Acked, Nacked, Demand}
 use Rattle.station.specs.Effect.{Answer}
@@ -66,15 +66,8 @@ saidAck i k (Granted p m) = saidAs 0 6 i k p (m .0) 1
 saidAck i k (Wait p) = saidAs 0 6 i k p 0 2
 saidAck i k (InUse p) = saidAs 0 6 i k p 0 3
 
-abbrev pub saidSend : Request → SaidMeant
-saidSend Hello = saidAs 1 1 0 0 255 0 0
-saidSend KeepAlive = saidAs 1 2 0 0 255 0 0
-saidSend (Ask p m) = saidAs 1 3 0 0 p (m .0) 0
-saidSend (Release p) = saidAs 1 4 0 0 p 0 0
-saidSend (Keep p) = saidAs 1 5 0 0 p 0 0
-
 abbrev pub saidEvent : Event → SaidMeant
-saidEvent (Send q) = saidSend q
+saidEvent (Send q) = saidAs 1 (saidRequest q .kind) 0 0 (saidRequest q .profile) (saidRequest q .mode) 0
 saidEvent (Begin p m) = saidAs 2 0 0 0 p (m .0) 0
 saidEvent (Edit p) = saidAs 3 0 0 0 p 0 0
 saidEvent (End p) = saidAs 4 0 0 0 p 0 0

@@ -1,7 +1,7 @@
 -- Answers in the paper's numbers and values.
 use mathlib.Core.Bool.{Bool, true, false}
 use Prim.Native.Nat.{ℕ}
-use Rattle.station.specs.Event.{Request, Hello, KeepAlive, Ask, Release, Keep}
+use Rattle.requests.specs.Request.{saidRequest}
 use Rattle.station.specs.Effect.{Advice, Answer}
 use Rattle.station.specs.Station.{Station, Stepped, PhaseAnswer, UseAnswer}
 use Rattle.station.specs.declared.event.Advice.the-variants as advice
@@ -48,14 +48,6 @@ message kind number profile mode =
       advice = 0;
     }
 
--- "1 hello and 2 keep-alive: 255, 0, 0. 3 ask: profile 0 to 63, mode 1 to 6, 0. 4 release and 5 keep: profile, 0, 0."
-abbrev pub saidRequest : ℕ → Request → Said
-saidRequest number Hello = message 1 number 255 0
-saidRequest number KeepAlive = message 2 number 255 0
-saidRequest number (Ask p m) = message 3 number p (m .0)
-saidRequest number (Release p) = message 4 number p 0
-saidRequest number (Keep p) = message 5 number p 0
-
 abbrev pub saidAdvice : Advice → ℕ
 saidAdvice advice.Keep = 1
 saidAdvice advice.WriteOut = 2
@@ -64,7 +56,7 @@ saidAdvice advice.Release = 3
 -- "All values beside a refusal are 0, save the lost mask and count with 8 to 14."
 abbrev pub said : Answer → Said
 said answer.Done = silent true 0 0
-said (answer.Sent n q) = saidRequest n q
+said (answer.Sent n q) = message (saidRequest q .kind) n (saidRequest q .profile) (saidRequest q .mode)
 said (answer.Advice v) = silent true 0 (saidAdvice v)
 said (answer.Refused n) = silent false n 0
 
