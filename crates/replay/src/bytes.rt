@@ -1,13 +1,9 @@
 // The lines that read and write a record.
 use crate::hex::MOST;
 use crate::hex::next_hex;
-use crate::hex::put_hex;
-use crate::print::put;
-use crate::print::put_line;
-use crate::print::put_number;
-use crate::print::put_number_line;
-use crate::print::put_refused;
-use crate::print::put_two;
+use crate::reply::BAD;
+use crate::reply::Reply;
+use crate::reply::Text;
 use crate::words::first;
 use crate::words::next_number;
 use crate::words::next_u8;
@@ -16,6 +12,12 @@ use crate::words::next_u64;
 use record::Message;
 use record::Put;
 use record::Read;
+
+const MESSAGE: Text = *b"message # # # # # # next #\n.............";
+
+const AT: Text = *b"at # *\n.................................";
+
+const REFUSED: Text = *b"refused # *\n............................";
 
 // What the buffer of a `write` line holds before it.
 const UNWRITTEN: u8 = 0xEE;
@@ -46,92 +48,58 @@ fn next_fields(s: &[u8], place: usize) -> Fields {
     }
 }
 
-fn put_three(out: &mut [u8], at: usize, text: &[u8], a: u64, b: u64, c: u64) -> usize {
-    let next = put_two(&mut *out, at, text, a, b" ", b);
-    put_number(out, next, b" ", c)
-}
-
-fn put_message(out: &mut [u8], at: usize, m: Message, next: usize) -> usize {
-    let kind = m.kind as u64;
-    let profile = m.profile as u64;
-    let a = put_three(
-        &mut *out,
-        at,
-        b"message ",
-        kind,
-        m.station as u64,
-        m.number as u64,
-    );
-    let b = put_three(&mut *out, a, b" ", profile, m.mode as u64, m.detail as u64);
-    put_number_line(out, b, b" next ", next as u64)
+fn message(m: Message, next: usize) -> Reply {
+    let whose = Reply::of(MESSAGE)
+        .with(m.kind as u64)
+        .with(m.station as u64);
+    let what = whose.with(m.number as u64).with(m.profile as u64);
+    let all = what.with(m.mode as u64).with(m.detail as u64);
+    all.with(next as u64)
 }
 
 // After the word `read`.
-pub(crate) fn read_line(s: &[u8], place: usize, out: &mut [u8], at: usize) -> usize {
+pub(crate) fn read_line(s: &[u8], place: usize) -> Reply {
     let received = next_hex(s, place);
     let from = next_u64(s, received.end);
     if from.end != s.len() {
-        return put_line(out, at, b"bad line");
+        return Reply::of(BAD);
     }
     let bytes = received.bytes;
-    let count = received.count;
-    put_read(out, at, &bytes, count, from.value as usize)
+    read(bytes, received.count, from.value as usize)
 }
 
-fn put_read(out: &mut [u8], at: usize, bytes: &[u8], count: usize, from: usize) -> usize {
-    match record::record_at(first(bytes, count), from) {
-        Read::Record(m, next) => put_message(out, at, m, next),
-        Read::Refused(refusal) => put_refused(out, at, refusal),
+fn read(bytes: [u8; MOST], count: usize, from: usize) -> Reply {
+    match record::record_at(first(&bytes, count), from) {
+        Read::Record(m, next) => message(m, next),
+        Read::Refused(refusal) => Reply::refused(refusal),
     }
 }
 
 // After the word `write`.
-pub(crate) fn write_line(s: &[u8], place: usize, out: &mut [u8], at: usize) -> usize {
+pub(crate) fn write_line(s: &[u8], place: usize) -> Reply {
     let room = next_number(s, place, MOST as u64);
     let from = next_u64(s, room.end);
     let told = next_fields(s, from.end);
     if told.end != s.len() {
-        return put_line(out, at, b"bad line");
+        return Reply::of(BAD);
     }
-    let mut buffer = [UNWRITTEN; MOST];
     let m = told.message;
-    put_written(
-        out,
-        at,
-        &mut buffer,
-        room.value as usize,
-        from.value as usize,
-        m,
-    )
+    written(room.value as usize, from.value as usize, m)
 }
 
-// The first `room` bytes are the buffer of the line.
-fn put_written(
-    out: &mut [u8],
-    at: usize,
-    buffer: &mut [u8],
-    room: usize,
-    from: usize,
-    m: Message,
-) -> usize {
-    if buffer.len() < room {
-        return put_line(out, at, b"bad line");
+// Into a buffer of `room` bytes.
+fn written(room: usize, from: usize, m: Message) -> Reply {
+    let mut buffer = [UNWRITTEN; MOST];
+    if MOST < room {
+        return Reply::of(BAD);
     }
     let answer = record::put_at(&mut buffer[..room], from, m);
-    let a = put_answer(&mut *out, at, answer);
-    let b = put_hex(&mut *out, a, &buffer[..room]);
-    put(out, b, b"\n")
+    answered(answer).with_bytes(buffer, room)
 }
 
-fn put_answer(out: &mut [u8], at: usize, answer: Put) -> usize {
+fn answered(answer: Put) -> Reply {
     match answer {
-        Put::Next(place) => {
-            let next = put_number(&mut *out, at, b"at ", place as u64);
-            put(out, next, b" ")
-        }
-        Put::Refused(refusal) => {
-            let next = put_number(&mut *out, at, b"refused ", refusal as u64);
-            put(out, next, b" ")
-        }
+        Put::Next(place) => Reply::of(AT).with(place as u64),
+        Put::Refused(refusal) => Reply::of(REFUSED).with(refusal as u64),
     }
 }

@@ -1,22 +1,28 @@
 // The lines about readings and leases.
-use crate::print::put_number_line;
-use crate::print::put_refused;
+use crate::reply::Reply;
+use crate::reply::Text;
 use timing::lease::Lease;
 use timing::lease::Left;
 use timing::reading::Reading;
 use timing::reading::Widened;
 
-pub(crate) fn put_widened(out: &mut [u8], at: usize, last: u64, counter: u32) -> usize {
+const READING: Text = *b"reading #\n..............................";
+
+const TICKS: Text = *b"ticks #\n................................";
+
+const TICKS_PAST: Text = *b"ticks -#\n...............................";
+
+pub(crate) fn widened(last: u64, counter: u32) -> Reply {
     match Reading::widen(last, counter) {
-        Widened::Reading(reading) => put_number_line(out, at, b"reading ", reading),
-        Widened::Refused(refusal) => put_refused(out, at, refusal),
+        Widened::Reading(reading) => Reply::of(READING).with(reading),
+        Widened::Refused(refusal) => Reply::refused(refusal),
     }
 }
 
-pub(crate) fn put_left(out: &mut [u8], at: usize, start: u64, length: u64, reading: u64) -> usize {
+pub(crate) fn left(start: u64, length: u64, reading: u64) -> Reply {
     match Lease::left(start, length, reading) {
-        Left::Ticks(ticks) => put_ticks(out, at, ticks),
-        Left::Refused(refusal) => put_refused(out, at, refusal),
+        Left::Ticks(ticks) => ticks_left(ticks),
+        Left::Refused(refusal) => Reply::refused(refusal),
     }
 }
 
@@ -29,9 +35,7 @@ fn size(ticks: i64) -> u64 {
     ticks as u64
 }
 
-fn put_ticks(out: &mut [u8], at: usize, ticks: i64) -> usize {
-    if ticks < 0 {
-        return put_number_line(out, at, b"ticks -", size(ticks));
-    }
-    put_number_line(out, at, b"ticks ", size(ticks))
+fn ticks_left(ticks: i64) -> Reply {
+    let text = if ticks < 0 { TICKS_PAST } else { TICKS };
+    Reply::of(text).with(size(ticks))
 }

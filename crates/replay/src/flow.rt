@@ -1,6 +1,8 @@
 // Standard input, line by line, and standard output, each through a buffer, so that a script may have any length.
 use crate::print::flush;
-use crate::print::with_room;
+use crate::print::has_room;
+use crate::reply::Reply;
+use crate::reply::put_reply;
 use libc::STDIN_FILENO;
 ghost use Prim.Native.Nat.{_≤_};
 
@@ -86,13 +88,28 @@ fn refilled(chunk: &mut [u8], flow: Flow) -> Flow {
     }
 }
 
-// Goes on with the line, and has room for its answer. What was answered is written out before it waits for more input.
-pub(crate) fn next(chunk: &mut [u8], line: &mut [u8], out: &[u8], flow: Flow) -> Flow {
+// Puts a reply. Where the line after it is there already, it is written out later, with what fits into the buffer.
+pub(crate) fn put_on(out: &mut [u8], used: usize, reply: Reply, more: bool) -> usize {
+    let next = put_reply(&mut *out, used, reply);
+    let length = out.len();
+    if more && has_room(length, next) {
+        return next;
+    }
+    flush(&*out, next)
+}
+
+// Puts the reply to the line before, and goes on with the line. What was put is written out before it waits for more input.
+pub(crate) fn next(
+    chunk: &mut [u8],
+    line: &mut [u8],
+    out: &mut [u8],
+    flow: Flow,
+    reply: Reply,
+) -> Flow {
     let mut after = taken(&*chunk, line, flow);
+    after.used = put_on(out, after.used, reply, after.whole);
     if after.whole {
-        after.used = with_room(out, after.used);
         return after;
     }
-    after.used = flush(out, after.used);
     refilled(chunk, after)
 }

@@ -1,5 +1,5 @@
 // Bytes as pairs of digits in upper case, `-` for none.
-use crate::print::put;
+use crate::print::put_byte;
 use crate::words::NOWHERE;
 use crate::words::is_word;
 use crate::words::next_word;
@@ -97,13 +97,13 @@ fn glyph(nibble: u8) -> u8
 }
 
 fn put_pair(out: &mut [u8], at: usize, b: u8) -> usize {
-    let pair = [glyph(b / 16), glyph(b % 16)];
-    put(out, at, &pair)
+    let next = put_byte(&mut *out, at, glyph(b / 16));
+    put_byte(out, next, glyph(b % 16))
 }
 
 pub(crate) fn put_hex(out: &mut [u8], at: usize, bytes: &[u8]) -> usize {
     if bytes.len() == 0 {
-        return put_none(out, at);
+        return put_byte(out, at, b'-');
     }
     let mut next = at;
     let mut i = 0;
@@ -112,8 +112,4 @@ pub(crate) fn put_hex(out: &mut [u8], at: usize, bytes: &[u8]) -> usize {
         i += 1;
     }
     next
-}
-
-fn put_none(out: &mut [u8], at: usize) -> usize {
-    put(out, at, b"-")
 }

@@ -9,6 +9,7 @@ mod line; // which line it is
 mod plain; // the lines that need no engine
 mod play; // the engines
 mod print; // the output buffer
+mod reply; // what is printed for a line
 mod rooms; // the lines of a room
 mod serve; // the lines of the server
 mod told; // what a room answers

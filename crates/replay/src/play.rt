@@ -1,13 +1,15 @@
 // The engines, played line by line.
 use crate::flow::Flow;
 use crate::flow::next;
+use crate::flow::put_on;
 use crate::line::Line;
 use crate::line::meant;
-use crate::plain::put_plain;
-use crate::print::flush;
-use crate::serve::put_served;
-use crate::told::put_asked;
-use crate::told::put_stepped;
+use crate::plain::plainly;
+use crate::reply::NOTHING;
+use crate::reply::Reply;
+use crate::serve::served;
+use crate::told::asked;
+use crate::told::stepped;
 use server::server::Server;
 use station::station::Station;
 use timing::settings::Settings;
@@ -43,43 +45,51 @@ fn within(room: usize) -> usize
     if room < Settings::STATIONS { room } else { 0 }
 }
 
+// The turns that are left. They are counted so that the loop ends whatever the input.
+fn left(turns: u64, over: bool) -> u64
+    requires { ⌜ 0 < turns ⌝ }
+    ensures { λ r. ⌜ r < turns ⌝ }
+{
+    if over { 0 } else { turns - 1 }
+}
+
 // The server and the rooms are held here and nowhere else, since each further function that holds them copies them.
 pub(crate) fn play(chunk: &mut [u8], line: &mut [u8], out: &mut [u8]) {
-    let mut server = Server::new(unset()).server;
-    let mut rooms = rooms_of(unset());
+    let none = unset();
+    let mut server = Server::new(none).server;
+    let mut rooms = rooms_of(none);
     let mut ready = false;
     let mut flow = Flow::new();
+    let mut reply = Reply::of(NOTHING);
     let mut turns = u64::MAX;
-    while turns > 0 && !flow.over {
-        turns -= 1;
-        flow = next(&mut *chunk, &mut *line, &*out, flow);
+    while turns > 0 {
+        flow = next(&mut *chunk, &mut *line, &mut *out, flow, reply);
+        turns = left(turns, flow.over);
         match meant(&*line, flow.count, flow.whole, ready) {
             Line::Settings(settings) => {
                 server = Server::new(settings).server;
                 rooms = rooms_of(settings);
                 ready = true;
+                reply = Reply::of(NOTHING);
             }
             Line::Server(reading, event) => {
-                let served = server.step(reading, event);
-                server = served.server;
-                let answer = served.answer;
-                flow.used = put_served(&mut *out, flow.used, answer);
+                let after = server.step(reading, event);
+                server = after.server;
+                let answer = after.answer;
+                reply = served(answer);
             }
             Line::Room(room, reading, event) => {
                 let i = within(room);
-                let stepped = rooms[i].step(reading, event);
-                let after = stepped.station;
-                rooms[i] = after;
-                flow.used = put_stepped(&mut *out, flow.used, stepped);
+                let after = rooms[i].step(reading, event);
+                let station = after.station;
+                rooms[i] = station;
+                reply = stepped(after);
             }
             Line::Question(room, reading, question) => {
-                let i = within(room);
-                flow.used = put_asked(&mut *out, flow.used, rooms[i], reading, question);
+                reply = asked(rooms[within(room)], reading, question);
             }
-            Line::Plain(plain) => {
-                flow.used = put_plain(&mut *out, flow.used, &*line, flow.count, plain);
-            }
+            Line::Plain(plain) => reply = plainly(&*line, flow.count, plain),
         }
     }
-    flush(&*out, flow.used);
+    put_on(out, flow.used, reply, false);
 }

@@ -2,20 +2,28 @@
 use crate::asked::asks;
 use crate::line::Line;
 use crate::line::Plain;
-use crate::print::put_line;
-use crate::print::put_number_line;
-use crate::print::put_refused;
-use crate::print::put_two;
-use crate::print::put_two_line;
+use crate::reply::Reply;
+use crate::reply::Text;
 use crate::words::is_word;
 use crate::words::next_u8;
 use crate::words::next_u32;
 use crate::words::next_u64;
 use crate::words::next_word;
-use modes::Mode;
 use requests::Asked;
 use server::event::Answer;
 use server::event::Event;
+
+const DONE: Text = *b"ack done\n...............................";
+
+const GRANTED: Text = *b"ack granted # #\n........................";
+
+const WAIT: Text = *b"ack wait # demand # mask # count #\n.....";
+
+const IN_USE: Text = *b"ack inuse #\n............................";
+
+const NACK: Text = *b"nack #\n.................................";
+
+const TICKED: Text = *b"tick freed # started #\n.................";
 
 // After the word `server`.
 pub(crate) fn server_line(s: &[u8], place: usize) -> Line {
@@ -37,38 +45,21 @@ pub(crate) fn server_line(s: &[u8], place: usize) -> Line {
     }
 }
 
-fn put_wait(out: &mut [u8], at: usize, profile: u8, mode: Mode, mask: u64, count: u32) -> usize {
-    let wanted = mode.0 as u64;
-    let next = put_two(
-        &mut *out,
-        at,
-        b"ack wait ",
-        profile as u64,
-        b" demand ",
-        wanted,
-    );
-    put_two_line(out, next, b" mask ", mask, b" count ", count as u64)
-}
-
-pub(crate) fn put_served(out: &mut [u8], at: usize, answer: Answer) -> usize {
+// What it answers.
+pub(crate) fn served(answer: Answer) -> Reply {
     match answer {
-        Answer::Done => put_line(out, at, b"ack done"),
+        Answer::Done => Reply::of(DONE),
         Answer::Granted(profile, mode) => {
-            put_two_line(
-                out,
-                at,
-                b"ack granted ",
-                profile as u64,
-                b" ",
-                mode.0 as u64,
-            )
+            Reply::of(GRANTED).with(profile as u64).with(mode.0 as u64)
         }
-        Answer::Wait(profile, mode, mask, count) => put_wait(out, at, profile, mode, mask, count),
-        Answer::InUse(profile) => put_number_line(out, at, b"ack inuse ", profile as u64),
-        Answer::Nack(detail) => put_number_line(out, at, b"nack ", detail as u64),
-        Answer::Ticked(freed, started) => {
-            put_two_line(out, at, b"tick freed ", freed, b" started ", started)
+        Answer::Wait(profile, mode, mask, count) => {
+            let many = count as u64;
+            let demand = Reply::of(WAIT).with(profile as u64).with(mode.0 as u64);
+            demand.with(mask).with(many)
         }
-        Answer::Refused(refusal) => put_refused(out, at, refusal),
+        Answer::InUse(profile) => Reply::of(IN_USE).with(profile as u64),
+        Answer::Nack(detail) => Reply::of(NACK).with(detail as u64),
+        Answer::Ticked(freed, started) => Reply::of(TICKED).with(freed).with(started),
+        Answer::Refused(refusal) => Reply::refused(refusal),
     }
 }

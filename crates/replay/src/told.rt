@@ -1,12 +1,7 @@
 // What a room answers.
 use crate::line::Question;
-use crate::print::put;
-use crate::print::put_line;
-use crate::print::put_number;
-use crate::print::put_number_line;
-use crate::print::put_refused;
-use crate::print::put_two;
-use crate::print::put_two_line;
+use crate::reply::Reply;
+use crate::reply::Text;
 use station::event::Advice;
 use station::event::Answer;
 use station::event::PhaseAnswer;
@@ -15,77 +10,94 @@ use station::event::UseAnswer;
 use station::station::Station;
 use station::station::Stepped;
 
-fn put_advice(out: &mut [u8], at: usize, advice: Advice) -> usize {
+const DONE: Text = *b"done lost # count #\n....................";
+
+const REFUSED: Text = *b"refused # lost # count #\n...............";
+
+const HELLO: Text = *b"sent hello # lost # count #\n............";
+
+const KEEP_ALIVE: Text = *b"sent keepalive # lost # count #\n........";
+
+const ASK: Text = *b"sent ask # # # lost # count #\n..........";
+
+const RELEASE: Text = *b"sent release # # lost # count #\n........";
+
+const KEEP: Text = *b"sent keep # # lost # count #\n...........";
+
+const TO_KEEP: Text = *b"advice keep lost # count #\n.............";
+
+const TO_WRITE: Text = *b"advice write lost # count #\n............";
+
+const TO_RELEASE: Text = *b"advice release lost # count #\n..........";
+
+const PHASE: Text = *b"phase #\n................................";
+
+const OUT: Text = *b"phase out\n..............................";
+
+const YES: Text = *b"use yes\n................................";
+
+const NO: Text = *b"use no\n.................................";
+
+fn advised(advice: Advice) -> Reply {
     match advice {
-        Advice::Keep => put(out, at, b"advice keep"),
-        Advice::WriteOut => put(out, at, b"advice write"),
-        Advice::Release => put(out, at, b"advice release"),
+        Advice::Keep => Reply::of(TO_KEEP),
+        Advice::WriteOut => Reply::of(TO_WRITE),
+        Advice::Release => Reply::of(TO_RELEASE),
     }
 }
 
 // A message to send, with its number.
-fn put_sent(out: &mut [u8], at: usize, number: u32, request: Request) -> usize {
+fn sent(number: u32, request: Request) -> Reply {
     let k = number as u64;
     match request {
-        Request::Hello => put_number(out, at, b"sent hello ", k),
-        Request::KeepAlive => put_number(out, at, b"sent keepalive ", k),
+        Request::Hello => Reply::of(HELLO).with(k),
+        Request::KeepAlive => Reply::of(KEEP_ALIVE).with(k),
         Request::Ask(profile, mode) => {
-            let next = put_two(&mut *out, at, b"sent ask ", k, b" ", profile as u64);
-            put_number(out, next, b" ", mode.0 as u64)
+            Reply::of(ASK)
+                .with(k)
+                .with(profile as u64)
+                .with(mode.0 as u64)
         }
-        Request::Release(profile) => put_two(out, at, b"sent release ", k, b" ", profile as u64),
-        Request::Keep(profile) => put_two(out, at, b"sent keep ", k, b" ", profile as u64),
+        Request::Release(profile) => Reply::of(RELEASE).with(k).with(profile as u64),
+        Request::Keep(profile) => Reply::of(KEEP).with(k).with(profile as u64),
     }
 }
 
-fn put_told(out: &mut [u8], at: usize, answer: Answer) -> usize {
+fn answered(answer: Answer) -> Reply {
     match answer {
-        Answer::Done => put(out, at, b"done"),
-        Answer::Sent(number, request) => put_sent(out, at, number, request),
-        Answer::Advice(advice) => put_advice(out, at, advice),
-        Answer::Refused(refusal) => put_number(out, at, b"refused ", refusal as u64),
+        Answer::Done => Reply::of(DONE),
+        Answer::Sent(number, request) => sent(number, request),
+        Answer::Advice(advice) => advised(advice),
+        Answer::Refused(refusal) => Reply::of(REFUSED).with(refusal as u64),
     }
 }
 
-// The answer with the lost profiles.
-pub(crate) fn put_stepped(out: &mut [u8], at: usize, stepped: Stepped) -> usize {
-    let answer = stepped.answer;
-    let next = put_told(&mut *out, at, answer);
-    put_two_line(
-        out,
-        next,
-        b" lost ",
-        stepped.lost,
-        b" count ",
-        stepped.count as u64,
-    )
-}
-
-fn put_phase(out: &mut [u8], at: usize, answer: PhaseAnswer) -> usize {
+fn phase_told(answer: PhaseAnswer) -> Reply {
     match answer {
-        PhaseAnswer::Phase(phase) => put_number_line(out, at, b"phase ", phase as u64),
-        PhaseAnswer::Out => put_line(out, at, b"phase out"),
-        PhaseAnswer::Refused(refusal) => put_refused(out, at, refusal),
+        PhaseAnswer::Phase(phase) => Reply::of(PHASE).with(phase as u64),
+        PhaseAnswer::Out => Reply::of(OUT),
+        PhaseAnswer::Refused(refusal) => Reply::refused(refusal),
     }
 }
 
-fn put_use(out: &mut [u8], at: usize, answer: UseAnswer) -> usize {
+fn use_told(answer: UseAnswer) -> Reply {
     match answer {
-        UseAnswer::Yes => put_line(out, at, b"use yes"),
-        UseAnswer::No => put_line(out, at, b"use no"),
-        UseAnswer::Refused(refusal) => put_refused(out, at, refusal),
+        UseAnswer::Yes => Reply::of(YES),
+        UseAnswer::No => Reply::of(NO),
+        UseAnswer::Refused(refusal) => Reply::refused(refusal),
     }
 }
 
-pub(crate) fn put_asked(
-    out: &mut [u8],
-    at: usize,
-    room: Station,
-    reading: u64,
-    question: Question,
-) -> usize {
+// The answer to an event, with the lost profiles.
+pub(crate) fn stepped(after: Stepped) -> Reply {
+    let answer = after.answer;
+    let lost = answered(answer).with(after.lost);
+    lost.with(after.count as u64)
+}
+
+pub(crate) fn asked(room: Station, reading: u64, question: Question) -> Reply {
     match question {
-        Question::Phase => put_phase(out, at, room.phase(reading)),
-        Question::Use(profile) => put_use(out, at, room.may_use(reading, profile)),
+        Question::Phase => phase_told(room.phase(reading)),
+        Question::Use(profile) => use_told(room.may_use(reading, profile)),
     }
 }

@@ -12,8 +12,8 @@ Inv-loop out₀ at bytes next₀ i₀ out next i = length out ≡ length out₀
 abbrev μ-loop : tie.MeasureT-loop
 μ-loop out₀ at bytes next₀ i₀ out next i = length bytes - i
 
-put-none-requires : tie.Need-put-none-requires Inv-loop μ-loop
-put-none-requires c κs = search needs
+put-byte-requires : tie.Need-put-byte-requires Inv-loop μ-loop
+put-byte-requires c κs = search needs
 
 same-length : tie.Need-same-length Inv-loop μ-loop
 same-length c = search needs
@@ -51,7 +51,7 @@ put-hex-spec =
     (tie.spec
     Inv-loop
     μ-loop
-    put-none-requires
+    put-byte-requires
     same-length
     returns
     loop-holds

@@ -8,10 +8,10 @@ use Rattle.replay.proofs.play.play.Statement.{statement}
 use Rattle.replay.proofs.play.play.Tie as tie
 
 abbrev Inv-loop : tie.InvT-loop
-Inv-loop chunk₀ line₀ out₀ server₀ rooms₀ ready₀ flow₀ turns₀ chunk line out server rooms ready flow turns = (length chunk ≡ length chunk₀) × (length line ≡ length line₀) × (length out ≡ length out₀) × (length rooms ≡ mostStations)
+Inv-loop chunk₀ line₀ out₀ server₀ rooms₀ ready₀ flow₀ reply₀ turns₀ chunk line out server rooms ready flow reply turns = (length chunk ≡ length chunk₀) × (length line ≡ length line₀) × (length out ≡ length out₀) × (length rooms ≡ mostStations)
 
 abbrev μ-loop : tie.MeasureT-loop
-μ-loop chunk₀ line₀ out₀ server₀ rooms₀ ready₀ flow₀ turns₀ chunk line out server rooms ready flow turns = turns
+μ-loop chunk₀ line₀ out₀ server₀ rooms₀ ready₀ flow₀ reply₀ turns₀ chunk line out server rooms ready flow reply turns = turns
 
 unset-requires : tie.Need-unset-requires Inv-loop μ-loop
 unset-requires c κs = search needs
@@ -19,23 +19,23 @@ unset-requires c κs = search needs
 new-requires : tie.Need-new-requires Inv-loop μ-loop
 new-requires c κs = search needs
 
-unset-requires-2 : tie.Need-unset-requires-2 Inv-loop μ-loop
-unset-requires-2 c κs = search needs
-
 rooms-of-requires : tie.Need-rooms-of-requires Inv-loop μ-loop
 rooms-of-requires c κs = search needs
 
 new-requires-2 : tie.Need-new-requires-2 Inv-loop μ-loop
 new-requires-2 c κs = search needs
 
+of-requires : tie.Need-of-requires Inv-loop μ-loop
+of-requires c κs = search needs
+
 loop-holds : tie.Need-loop-holds Inv-loop μ-loop
 loop-holds c = search needs
 
-sub-turns : tie.Need-sub-turns Inv-loop μ-loop
-sub-turns c = search needs
-
 next-requires : tie.Need-next-requires Inv-loop μ-loop
 next-requires c κs = search needs
+
+left-requires : tie.Need-left-requires Inv-loop μ-loop
+left-requires c κs = search needs
 
 meant-requires : tie.Need-meant-requires Inv-loop μ-loop
 meant-requires c κs = search needs
@@ -49,14 +49,17 @@ new-requires-3 c κs = search needs
 rooms-of-requires-2 : tie.Need-rooms-of-requires-2 Inv-loop μ-loop
 rooms-of-requires-2 c κs = search needs
 
+of-requires-2 : tie.Need-of-requires-2 Inv-loop μ-loop
+of-requires-2 c κs = search needs
+
 loop-less : tie.Need-loop-less Inv-loop μ-loop
-loop-less c = omega (arith, c .before .before .before .before .before .before .before .before .before .before .before .before .before .before .before .before .before .before .loop-test .taken)
+loop-less c = search needs
 
 loop-again : tie.Need-loop-again Inv-loop μ-loop
 loop-again c =
-    let l = c .before .before .before .before .before .before .before .before .before .before .before .before .before .before .before .before .before .before .before .loop in
-    let n = c .before .before .before .before .before .before .before .before .before .before .before .before .next in
-    (n .kept .0 ∙ l .inv .0, omega (arith, n .kept .1, l .inv .1), l .inv .2, c .rooms-of2 .ensures)
+    let l = c .before .before .before .before .before .before .before .before .before .before .before .before .before .before .before .before .before .before .before .before .before .loop in
+    let n = c .before .before .before .before .before .before .before .before .before .before .before .before .before .before .before .before .next in
+    (n .kept .0 ∙ l .inv .0, omega (arith, n .kept .1 .0, l .inv .1), omega (arith, n .kept .1 .1, l .inv .2), c .before .rooms-of2 .ensures)
 
 enum-known-reading : tie.Need-enum-known-reading Inv-loop μ-loop
 enum-known-reading c = search needs
@@ -64,17 +67,17 @@ enum-known-reading c = search needs
 step-requires : tie.Need-step-requires Inv-loop μ-loop
 step-requires c κs = search needs
 
-put-served-requires : tie.Need-put-served-requires Inv-loop μ-loop
-put-served-requires c κs = search needs
+served-requires : tie.Need-served-requires Inv-loop μ-loop
+served-requires c κs = search needs
 
 loop-less-2 : tie.Need-loop-less-2 Inv-loop μ-loop
-loop-less-2 c = omega (arith, c .before .before .before .before .before .before .before .before .before .before .before .before .before .before .before .before .before .before .before .before .before .loop-test .taken)
+loop-less-2 c = search needs
 
 loop-again-2 : tie.Need-loop-again-2 Inv-loop μ-loop
 loop-again-2 c =
-    let l = c .before .before .before .before .before .before .before .before .before .before .before .before .before .before .before .before .before .before .before .before .before .before .loop in
+    let l = c .before .before .before .before .before .before .before .before .before .before .before .before .before .before .before .before .before .before .before .before .loop in
     let n = c .before .before .before .before .before .before .before .before .before .before .before .before .before .before .before .next in
-    (n .kept .0 ∙ l .inv .0, omega (arith, n .kept .1, l .inv .1), c .before .before .put-served .kept .0 ∙ l .inv .2, l .inv .3)
+    (n .kept .0 ∙ l .inv .0, omega (arith, n .kept .1 .0, l .inv .1), omega (arith, n .kept .1 .1, l .inv .2), l .inv .3)
 
 enum-known-room : tie.Need-enum-known-room Inv-loop μ-loop
 enum-known-room c = search needs
@@ -97,17 +100,17 @@ mul-rooms c = search needs
 array-set-from-rooms : tie.Need-array-set-from-rooms Inv-loop μ-loop
 array-set-from-rooms c = search needs
 
-put-stepped-requires : tie.Need-put-stepped-requires Inv-loop μ-loop
-put-stepped-requires c κs = search needs
+stepped-requires : tie.Need-stepped-requires Inv-loop μ-loop
+stepped-requires c κs = search needs
 
 loop-less-3 : tie.Need-loop-less-3 Inv-loop μ-loop
-loop-less-3 c = omega (arith, c .before .before .before .before .before .before .before .before .before .before .before .before .before .before .before .before .before .before .before .before .before .before .before .loop-test .taken)
+loop-less-3 c = search needs
 
 loop-again-3 : tie.Need-loop-again-3 Inv-loop μ-loop
 loop-again-3 c =
-    let l = c .before .before .before .before .before .before .before .before .before .before .before .before .before .before .before .before .before .before .before .before .before .before .before .before .loop in
+    let l = c .before .before .before .before .before .before .before .before .before .before .before .before .before .before .before .before .before .before .before .before .before .before .loop in
     let n = c .before .before .before .before .before .before .before .before .before .before .before .before .before .before .before .before .before .next in
-    (n .kept .0 ∙ l .inv .0, omega (arith, n .kept .1, l .inv .1), c .before .before .put-stepped .kept .0 ∙ l .inv .2, simp length-set (l .inv .3))
+    (n .kept .0 ∙ l .inv .0, omega (arith, n .kept .1 .0, l .inv .1), omega (arith, n .kept .1 .1, l .inv .2), simp length-set (l .inv .3))
 
 enum-known-room-2 : tie.Need-enum-known-room-2 Inv-loop μ-loop
 enum-known-room-2 c = search needs
@@ -115,41 +118,41 @@ enum-known-room-2 c = search needs
 within-requires-2 : tie.Need-within-requires-2 Inv-loop μ-loop
 within-requires-2 c κs = search needs
 
-mul-put-asked : tie.Need-mul-put-asked Inv-loop μ-loop
-mul-put-asked c = search needs
+mul-asked : tie.Need-mul-asked Inv-loop μ-loop
+mul-asked c = search needs
 
-array-copy-out-put-asked : tie.Need-array-copy-out-put-asked Inv-loop μ-loop
-array-copy-out-put-asked c = search needs
+array-copy-out-asked : tie.Need-array-copy-out-asked Inv-loop μ-loop
+array-copy-out-asked c = search needs
 
-put-asked-requires : tie.Need-put-asked-requires Inv-loop μ-loop
-put-asked-requires c κs = search needs
+asked-requires : tie.Need-asked-requires Inv-loop μ-loop
+asked-requires c κs = search needs
 
 loop-less-4 : tie.Need-loop-less-4 Inv-loop μ-loop
-loop-less-4 c = omega (arith, c .before .before .before .before .before .before .before .before .before .before .before .before .before .before .before .before .before .before .before .before .before .loop-test .taken)
+loop-less-4 c = search needs
 
 loop-again-4 : tie.Need-loop-again-4 Inv-loop μ-loop
 loop-again-4 c =
-    let l = c .before .before .before .before .before .before .before .before .before .before .before .before .before .before .before .before .before .before .before .before .before .before .loop in
+    let l = c .before .before .before .before .before .before .before .before .before .before .before .before .before .before .before .before .before .before .before .before .loop in
     let n = c .before .before .before .before .before .before .before .before .before .before .before .before .before .before .before .next in
-    (n .kept .0 ∙ l .inv .0, omega (arith, n .kept .1, l .inv .1), c .before .before .put-asked .kept .0 ∙ l .inv .2, l .inv .3)
+    (n .kept .0 ∙ l .inv .0, omega (arith, n .kept .1 .0, l .inv .1), omega (arith, n .kept .1 .1, l .inv .2), l .inv .3)
 
 enum-known-plain : tie.Need-enum-known-plain Inv-loop μ-loop
 enum-known-plain c = search needs
 
-put-plain-requires : tie.Need-put-plain-requires Inv-loop μ-loop
-put-plain-requires c κs = search needs
+plainly-requires : tie.Need-plainly-requires Inv-loop μ-loop
+plainly-requires c κs = search needs
 
 loop-less-5 : tie.Need-loop-less-5 Inv-loop μ-loop
-loop-less-5 c = omega (arith, c .before .before .before .before .before .before .before .before .before .before .before .before .before .before .before .before .before .before .before .before .loop-test .taken)
+loop-less-5 c = search needs
 
 loop-again-5 : tie.Need-loop-again-5 Inv-loop μ-loop
 loop-again-5 c =
-    let l = c .before .before .before .before .before .before .before .before .before .before .before .before .before .before .before .before .before .before .before .before .before .loop in
+    let l = c .before .before .before .before .before .before .before .before .before .before .before .before .before .before .before .before .before .before .before .loop in
     let n = c .before .before .before .before .before .before .before .before .before .before .before .before .before .before .next in
-    (n .kept .0 ∙ l .inv .0, omega (arith, n .kept .1, l .inv .1), c .before .before .put-plain .kept .0 ∙ l .inv .2, l .inv .3)
+    (n .kept .0 ∙ l .inv .0, omega (arith, n .kept .1 .0, l .inv .1), omega (arith, n .kept .1 .1, l .inv .2), l .inv .3)
 
-flush-requires : tie.Need-flush-requires Inv-loop μ-loop
-flush-requires c κs = search needs
+put-on-requires : tie.Need-put-on-requires Inv-loop μ-loop
+put-on-requires c κs = search needs
 
 same-length : tie.Need-same-length Inv-loop μ-loop
 same-length c = search needs
@@ -171,21 +174,22 @@ play-spec =
     μ-loop
     unset-requires
     new-requires
-    unset-requires-2
     rooms-of-requires
     new-requires-2
+    of-requires
     loop-holds
-    sub-turns
     next-requires
+    left-requires
     meant-requires
     enum-known-settings
     new-requires-3
     rooms-of-requires-2
+    of-requires-2
     loop-less
     loop-again
     enum-known-reading
     step-requires
-    put-served-requires
+    served-requires
     loop-less-2
     loop-again-2
     enum-known-room
@@ -195,21 +199,21 @@ play-spec =
     step-requires-2
     mul-rooms
     array-set-from-rooms
-    put-stepped-requires
+    stepped-requires
     loop-less-3
     loop-again-3
     enum-known-room-2
     within-requires-2
-    mul-put-asked
-    array-copy-out-put-asked
-    put-asked-requires
+    mul-asked
+    array-copy-out-asked
+    asked-requires
     loop-less-4
     loop-again-4
     enum-known-plain
-    put-plain-requires
+    plainly-requires
     loop-less-5
     loop-again-5
-    flush-requires
+    put-on-requires
     same-length
     same-length-2
     same-length-3
