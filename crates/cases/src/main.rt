@@ -19,32 +19,31 @@ use timing::settings::Settings;
 fn main() {
     waits();
     phases();
-    left(110, 0);
-    left(111, -1);
+    left(110, b"0");
+    left(111, b"-1");
     written();
     story::played();
 }
 
 // The wait of four lengths and a rate allowance.
-fn wait_is(settings: Settings, should: u64) {
-    text(b"wait of lease ");
-    number(settings.lease());
-    text(b": should be ");
-    number(should);
-    text(b", was ");
+fn wait_is(settings: Settings, should: &[u8]) {
+    say::asked(b"wait of lease ", settings.lease(), should);
     number(settings.wait());
     line_end();
 }
 
 fn waits() {
-    wait_is(Settings::new(1, 1, 1, 1, 1, 3, 5, 2, 1), 7);
-    wait_is(Settings::new(4, 2, 2, 2, 1, 10, 5, 2, 1), 12);
-    wait_is(Settings::new(4, 1, 1, 1, 1, 10, 5, 2, 1), 9);
+    wait_is(Settings::new(1, 1, 1, 1, 1, 3, 5, 2, 1), b"7");
+    wait_is(Settings::new(4, 2, 2, 2, 1, 10, 5, 2, 1), b"12");
+    wait_is(Settings::new(4, 1, 1, 1, 1, 10, 5, 2, 1), b"9");
     wait_is(
         Settings::new(7500, 7500, 7500, 7500, 1, 1000, 5, 2, 1),
-        30031,
+        b"30031",
     );
-    wait_is(Settings::new(2500, 2500, 2500, 2500, 0, 1, 5, 2, 1), 10001);
+    wait_is(
+        Settings::new(2500, 2500, 2500, 2500, 0, 1, 5, 2, 1),
+        b"10001",
+    );
 }
 
 // A station whose lease starts at 100.
@@ -56,23 +55,11 @@ fn leased() -> Station {
     acknowledged.station
 }
 
-fn phase_named(n: u8) {
-    if n == 0 {
-        text(b"out");
-    } else {
-        number(n as u64);
-    }
-}
-
-fn phase_is(room: Station, reading: u64, should: u8) {
-    text(b"phase at ");
-    number(reading);
-    text(b": should be ");
-    phase_named(should);
-    text(b", was ");
+fn phase_is(room: Station, reading: u64, should: &[u8]) {
+    say::asked(b"phase at ", reading, should);
     match room.phase(reading) {
-        PhaseAnswer::Phase(n) => phase_named(n),
-        PhaseAnswer::Out => phase_named(0),
+        PhaseAnswer::Phase(n) => number(n as u64),
+        PhaseAnswer::Out => text(b"out"),
         PhaseAnswer::Refused(n) => say::refused(n),
     }
     line_end();
@@ -80,21 +67,17 @@ fn phase_is(room: Station, reading: u64, should: u8) {
 
 fn phases() {
     let room = leased();
-    phase_is(room, 103, 1);
-    phase_is(room, 104, 2);
-    phase_is(room, 106, 3);
-    phase_is(room, 108, 4);
-    phase_is(room, 109, 4);
-    phase_is(room, 110, 0);
+    phase_is(room, 103, b"1");
+    phase_is(room, 104, b"2");
+    phase_is(room, 106, b"3");
+    phase_is(room, 108, b"4");
+    phase_is(room, 109, b"4");
+    phase_is(room, 110, b"out");
 }
 
 // Of a lease of 10 ticks that starts at 100.
-fn left(reading: u64, should: i64) {
-    text(b"ticks left at ");
-    number(reading);
-    text(b": should be ");
-    say::signed(should);
-    text(b", was ");
+fn left(reading: u64, should: &[u8]) {
+    say::asked(b"ticks left at ", reading, should);
     match Lease::left(100, 10, reading) {
         Left::Ticks(n) => say::signed(n),
         Left::Refused(n) => say::refused(n),
@@ -115,11 +98,7 @@ fn asked(mode: u8) -> Message {
 }
 
 fn record_is(mode: u8, should: &[u8]) {
-    text(b"record in mode ");
-    number(mode as u64);
-    text(b": should be ");
-    text(should);
-    text(b", was ");
+    say::asked(b"record in mode ", mode as u64, should);
     let mut buf = [0u8; 11];
     match record::put_record(&mut buf, asked(mode)) {
         record::Put::Next(_) => say::bytes(buf),

@@ -13,6 +13,15 @@ pub(crate) fn line_end() {
     text(b"\n");
 }
 
+// The front of a line: what is asked, and what it should be.
+pub(crate) fn asked(name: &[u8], n: u64, should: &[u8]) {
+    text(name);
+    number(n);
+    text(b": should be ");
+    text(should);
+    text(b", was ");
+}
+
 pub(crate) fn refused(n: u8) {
     text(b"refused ");
     number(n as u64);

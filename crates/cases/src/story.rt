@@ -1,4 +1,5 @@
 // Two stations and one profile: a holder that falls silent, times out and is freed.
+use crate::say::asked;
 use crate::say::line_end;
 use crate::say::number;
 use crate::say::refused;
@@ -45,11 +46,7 @@ fn answered(answer: Answer) {
 fn at(server: Server, reading: u64, event: Event, should: &[u8]) -> Server {
     let served = server.step(reading, event);
     let answer = served.answer;
-    text(b"at ");
-    number(reading);
-    text(b": should be ");
-    text(should);
-    text(b", was ");
+    asked(b"at ", reading, should);
     answered(answer);
     line_end();
     served.server
