@@ -27,7 +27,7 @@ fn main() {
 
 // The wait of four lengths and a rate allowance.
 fn wait_is(settings: Settings, should: &[u8]) {
-    say::asked(b"wait of lease ", settings.lease(), should);
+    say::should_be(b"wait of lease ", settings.lease(), should);
     number(settings.wait());
     line_end();
 }
@@ -56,7 +56,7 @@ fn leased() -> Station {
 }
 
 fn phase_is(room: Station, reading: u64, should: &[u8]) {
-    say::asked(b"phase at ", reading, should);
+    say::should_be(b"phase at ", reading, should);
     match room.phase(reading) {
         PhaseAnswer::Phase(n) => number(n as u64),
         PhaseAnswer::Out => text(b"out"),
@@ -77,7 +77,7 @@ fn phases() {
 
 // Of a lease of 10 ticks that starts at 100.
 fn left(reading: u64, should: &[u8]) {
-    say::asked(b"ticks left at ", reading, should);
+    say::should_be(b"ticks left at ", reading, should);
     match Lease::left(100, 10, reading) {
         Left::Ticks(n) => say::signed(n),
         Left::Refused(n) => say::refused(n),
@@ -98,7 +98,7 @@ fn asked(mode: u8) -> Message {
 }
 
 fn record_is(mode: u8, should: &[u8]) {
-    say::asked(b"record in mode ", mode as u64, should);
+    say::should_be(b"record in mode ", mode as u64, should);
     let mut buf = [0u8; 11];
     match record::put_record(&mut buf, asked(mode)) {
         record::Put::Next(_) => say::bytes(buf),

@@ -14,7 +14,7 @@ pub(crate) fn line_end() {
 }
 
 // The front of a line: what is asked, and what it should be.
-pub(crate) fn asked(name: &[u8], n: u64, should: &[u8]) {
+pub(crate) fn should_be(name: &[u8], n: u64, should: &[u8]) {
     text(name);
     number(n);
     text(b": should be ");

@@ -1,8 +1,8 @@
 // Two stations and one profile: a holder that falls silent, times out and is freed.
-use crate::say::asked;
 use crate::say::line_end;
 use crate::say::number;
 use crate::say::refused;
+use crate::say::should_be;
 use crate::say::text;
 use modes::Mode;
 use server::event::Answer;
@@ -46,7 +46,7 @@ fn answered(answer: Answer) {
 fn at(server: Server, reading: u64, event: Event, should: &[u8]) -> Server {
     let served = server.step(reading, event);
     let answer = served.answer;
-    asked(b"at ", reading, should);
+    should_be(b"at ", reading, should);
     answered(answer);
     line_end();
     served.server
