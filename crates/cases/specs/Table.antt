@@ -9,7 +9,7 @@ use Rattle.timing.specs.declared.lease.Left.the-variants.{Ticks}
 use Rattle.timing.specs.Settings.{settings, wait}
 use Rattle.timing.specs.Lease.{leftOf}
 use Rattle.record.specs.declared.message.Message.{Message}
-use Rattle.record.specs.Put.{bytesOf}
+use Rattle.writer.specs.Put.{bytesOf}
 use Rattle.server.specs.declared.server.Server.{Server}
 use Rattle.server.specs.declared.event.Answer.{Answer}
 use Rattle.server.specs.declared.event.Answer.the-variants.{Wait, Ticked}

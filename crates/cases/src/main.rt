@@ -100,9 +100,9 @@ fn asked(mode: u8) -> Message {
 fn record_is(mode: u8, should: &[u8]) {
     say::should_be(b"record in mode ", mode as u64, should);
     let mut buf = [0u8; 11];
-    match record::put_record(&mut buf, asked(mode)) {
-        record::Put::Next(_) => say::bytes(buf),
-        record::Put::Refused(n) => say::refused(n),
+    match writer::put_record(&mut buf, asked(mode)) {
+        writer::Put::Next(_) => say::bytes(buf),
+        writer::Put::Refused(n) => say::refused(n),
     }
     line_end();
 }

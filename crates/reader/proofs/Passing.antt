@@ -10,7 +10,7 @@ use Rattle.record.specs.declared.read.Read.{Read}
 use Rattle.record.specs.declared.read.Read.the-variants.{Record, Refused}
 use Rattle.record.specs.Read.{readAt}
 use Rattle.reader.specs.Reader.{passing, passedFrom}
-use Rattle.record.proofs.Round.{told}
+use Rattle.record.proofs.Told.{told}
 
 -- a record that is read lies within the bytes, and the next place is its end
 pub lies : (s : List ℕ) (at : ℕ) (m : Message) (next : ℕ) → readAt s at ≡ Record m next → (at + 11 ≤ length s) × (next ≡ at + 11)

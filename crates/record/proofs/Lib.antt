@@ -1,8 +1,4 @@
 pub mod BigEndian
 pub mod Ways
-pub mod Lent
+pub mod Told
 pub mod Said
-pub mod Cases
-pub mod Round
-pub mod Turns
-pub mod RunBack

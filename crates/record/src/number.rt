@@ -1,7 +1,7 @@
 // Numbers of four bytes, high first.
 ghost use mathlib.Core.Path.{_≡_};
 ghost use mathlib.Core.List.{[], _∷_};
-ghost use Rattle.record.specs.Number.{bigEndian, digits};
+ghost use Rattle.record.specs.Number.{bigEndian};
 
 const BYTE: u32 = 256;
 
@@ -15,17 +15,4 @@ pub(crate) fn number_of(a: u8, b: u8, c: u8, d: u8) -> u32
     ensures { λ r. ⌜ r ≡ bigEndian (a ∷ b ∷ c ∷ d ∷ []) ⌝ }
 {
     ((wide(a) * BYTE + wide(b)) * BYTE + wide(c)) * BYTE + wide(d)
-}
-
-pub(crate) fn bytes_of(n: u32) -> [u8; 4]
-    ensures { λ r. ⌜ r ≡ digits 4 n ⌝ }
-{
-    let high = n / BYTE / BYTE;
-    let low = n % (BYTE * BYTE);
-    [
-        (high / BYTE) as u8,
-        (high % BYTE) as u8,
-        (low / BYTE) as u8,
-        (low % BYTE) as u8,
-    ]
 }

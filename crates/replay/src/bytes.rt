@@ -10,8 +10,8 @@ use crate::words::next_u8;
 use crate::words::next_u32;
 use crate::words::next_u64;
 use record::Message;
-use record::Put;
 use record::Read;
+use writer::Put;
 
 const MESSAGE: Text = *b"message # # # # # # next #\n.............";
 
@@ -93,7 +93,7 @@ fn written(room: usize, from: usize, m: Message) -> Reply {
     if MOST < room {
         return Reply::of(BAD);
     }
-    let answer = record::put_at(&mut buffer[..room], from, m);
+    let answer = writer::put_at(&mut buffer[..room], from, m);
     answered(answer).with_bytes(buffer, room)
 }
 

@@ -10,9 +10,9 @@ use lib.ListN.{length, set, replicate, length-append}
 use lib.Seq.{set-append-seam, take-append-seam}
 use borrow.Author.Tests.{lt-ltb}
 use Rattle.record.specs.declared.message.Message.{Message}
-use Rattle.record.specs.declared.run.Run.{Run}
+use Rattle.writer.specs.declared.run.Run.{Run}
 use Rattle.record.specs.Message.{message}
-use Rattle.record.specs.Run.{messagesOf}
+use Rattle.writer.specs.Run.{messagesOf}
 use Rattle.server.specs.Border.{firstIf, demandsFrom}
 use Rattle.server.specs.Run.{blank, most, runOf, pushed, added}
 

@@ -6,7 +6,7 @@ use lib.Dec.{eqb, ltb}
 use lib.ListN.{length, set, replicate}
 use Rattle.timing.specs.Limits.{mostStations}
 use Rattle.record.specs.declared.message.Message.{Message}
-use Rattle.record.specs.declared.run.Run.{Run}
+use Rattle.writer.specs.declared.run.Run.{Run}
 
 abbrev pub blank : Message
 blank = record { kind = 0; station = 0; number = 0; profile = 0; mode = 0; detail = 0 }

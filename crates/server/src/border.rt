@@ -2,13 +2,13 @@
 use crate::event::Answer;
 use crate::event::Event;
 use record::Message;
-use record::Run;
-use record::Written;
 use requests::Asked;
 use timing::settings::Settings;
+use writer::Run;
+use writer::Written;
 ghost use mathlib.Core.Path.{_≡_};
 ghost use Rattle.record.specs.Message.{message};
-ghost use Rattle.record.specs.Run.{runAnswer, runContent};
+ghost use Rattle.writer.specs.Run.{runAnswer, runContent};
 ghost use mathlib.Core.List.{[], _∷_};
 ghost use Rattle.timing.specs.Limits.{mostStations};
 ghost use Rattle.server.specs.Border.{saidMeant, eventOf, demandsFrom, sentFor};
@@ -165,5 +165,5 @@ pub fn put_answer(buf: &mut [u8], at: usize, answer: Answer, station: u8, number
     ensures { λ r. ⌜ (r ≡ runAnswer 0 (sentFor station number answer) at (now (buf .entry))) × (now (buf .exit) ≡ runContent (sentFor station number answer) at (now (buf .entry))) ⌝ }
 {
     let run = messages(answer, station, number);
-    record::put_run(&mut *buf, at, run)
+    writer::put_run(&mut *buf, at, run)
 }

@@ -2,7 +2,7 @@
 use mathlib.Core.Path.{ap, _∙_}
 use mathlib.Core.List.{List}
 use Rattle.record.specs.declared.message.Message.{Message}
-use Rattle.record.specs.Run.{messagesOf, runAnswer, runContent}
+use Rattle.writer.specs.Run.{messagesOf, runAnswer, runContent}
 use Rattle.server.specs.Border.{sentFor}
 use Rattle.server.proofs.Runs.{run-messages}
 use borrow.Author.Needs.{needs}

@@ -5,15 +5,15 @@ use mathlib.Core.List.{List}
 use native.Mathlib.Omega.{arith}
 use borrow.Author.Needs.{needs}
 use lib.ListN.{length, getD, take, drop, length-take}
 use Rattle.record.specs.declared.message.Message.{Message}
-use Rattle.record.specs.declared.put.Put.the-variants.{Next, Refused}
-use Rattle.record.specs.Put.{putAnswer, putContent}
-use Rattle.record.specs.Run.{runAnswer, runContent}
+use Rattle.writer.specs.declared.put.Put.the-variants.{Next, Refused}
+use Rattle.writer.specs.Put.{putAnswer, putContent}
+use Rattle.writer.specs.Run.{runAnswer, runContent}
 use Rattle.timing.specs.Limits.{mostStations}
-use Rattle.record.proofs.Said.{said-put-injective}
-use Rattle.record.proofs.Turns.{mapped-length, all-meant, here, go-answer, go-content, stop-answer, stop-content, end-answer, end-content}
-use Rattle.record.proofs.run.put_run.Statement.{statement}
-use Rattle.record.proofs.run.put_run.Tie as tie
+use Rattle.writer.proofs.Said.{said-put-injective}
+use Rattle.writer.proofs.Turns.{mapped-length, all-meant, here, go-answer, go-content, stop-answer, stop-content, end-answer, end-content}
+use Rattle.writer.proofs.run.put_run.Statement.{statement}
+use Rattle.writer.proofs.run.put_run.Tie as tie
 
 abbrev none : Message
 none = record { kind = 0; station = 0; number = 0; profile = 0; mode = 0; detail = 0 }

@@ -1,10 +1,10 @@
 // The writer of several records: one after another, each into what room is left.
-use crate::message::Message;
 use crate::put::Put;
 use crate::put::put_at;
+use record::Message;
 ghost use mathlib.Core.Path.{_≡_};
 ghost use Prim.Native.Nat.{min};
-ghost use Rattle.record.specs.Run.{messagesOf, runAnswer, runContent};
+ghost use Rattle.writer.specs.Run.{messagesOf, runAnswer, runContent};
 
 // One answer and up to a demand for each station; the first `count` of the messages are meant.
 pub struct Run {

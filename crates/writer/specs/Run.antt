@@ -2,12 +2,12 @@
 use Prim.Native.Nat.{ℕ, suc}
 use mathlib.Core.List.{List, [], _∷_}
 use lib.ListN.{take}
 use Rattle.record.specs.declared.message.Message.{Message}
-use Rattle.record.specs.declared.put.Put.{Put}
-use Rattle.record.specs.declared.put.Put.the-variants.{Next, Refused}
-use Rattle.record.specs.declared.run.Run.{Run}
-use Rattle.record.specs.declared.run.Written.{Written}
-use Rattle.record.specs.Put.{putAnswer, putContent}
+use Rattle.writer.specs.declared.put.Put.{Put}
+use Rattle.writer.specs.declared.put.Put.the-variants.{Next, Refused}
+use Rattle.writer.specs.declared.run.Run.{Run}
+use Rattle.writer.specs.declared.run.Written.{Written}
+use Rattle.writer.specs.Put.{putAnswer, putContent}
 
 -- an array and a count: the first so many, or all of them
 abbrev pub messagesOf : Run → List Message

@@ -1,12 +1,12 @@
 // The writer: one record into what room is left.
-use crate::allow::allowed;
-use crate::message::Message;
 use crate::number::bytes_of;
+use record::Message;
+use record::allowed;
 ghost use mathlib.Core.Path.{_≡_};
 ghost use mathlib.Core.List.{_++_};
 ghost use Prim.Native.Nat.{_≤_, min};
 ghost use lib.ListN.{length, drop};
-ghost use Rattle.record.specs.Put.{bytesOf, putAnswer, putContent, saidPut};
+ghost use Rattle.writer.specs.Put.{bytesOf, putAnswer, putContent, saidPut};
 
 // The place after the record, or the number of refusal.
 pub enum Put {

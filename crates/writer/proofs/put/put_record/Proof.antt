@@ -3,9 +3,9 @@ use mathlib.Core.Path.{_≡_, sym, _∙_}
 use mathlib.Core.Bool.{true, false}
 use borrow.Author.Needs.{needs}
 use borrow.Author.Tests.{lt-ltb, le-ltb, not-true, not-false}
 use Rattle.record.specs.Allowed.{allowed}
-use Rattle.record.proofs.put.put_record.Statement.{statement}
-use Rattle.record.proofs.put.put_record.Tie as tie
+use Rattle.writer.proofs.put.put_record.Statement.{statement}
+use Rattle.writer.proofs.put.put_record.Tie as tie
 
 allowed-requires : tie.Need-allowed-requires
 allowed-requires c κs = search needs

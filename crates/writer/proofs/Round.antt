@@ -8,18 +8,19 @@ use native.Mathlib.Omega.{arith}
 use lib.Dec.{ltb, eqb}
 use lib.ListN.{length, getD, take, drop, length-take, length-drop, take-append-drop}
 use lib.Seq.{take-at, drop-at, drop-cons, length-take-le, drop-drop, getD-take, getD-drop, take-take}
-use borrow.Author.Tests.{le-ltb, ltb-true, ltb-false, eqb-true, ne-eqb}
+use borrow.Author.Tests.{le-ltb, ne-eqb}
 use Rattle.record.specs.declared.message.Message.{Message}
-use Rattle.record.specs.declared.put.Put.{Put}
-use Rattle.record.specs.declared.put.Put.the-variants as put
+use Rattle.writer.specs.declared.put.Put.{Put}
+use Rattle.writer.specs.declared.put.Put.the-variants as put
 use Rattle.record.specs.declared.read.Read.{Read}
 use Rattle.record.specs.declared.read.Read.the-variants as read
 use Rattle.record.specs.Allowed.{isKind, others, demands, allowed}
-use Rattle.record.specs.Put.{bytesOf, putAnswer, putContent}
+use Rattle.writer.specs.Put.{bytesOf, putAnswer, putContent}
 use Rattle.record.specs.Read.{marked, messageOf, readBytes, readAt}
 use Rattle.record.proofs.BigEndian.{digits-back, number-back}
-use Rattle.record.proofs.Lent as lent
-use Rattle.record.proofs.Ways.{short, unmarked, unkind, unallowed, accepted}
+use Rattle.writer.proofs.Lent as lent
+use Rattle.record.proofs.Told.{Told, told}
+use Rattle.record.proofs.Ways.{unkind, unallowed, accepted}
 
 -- ---- a message the record allows has one of the eight kinds
 other : (k c : ℕ) → isKind k ≡ false → isKind c ≡ true → eqb k c ≡ false
@@ -37,42 +38,6 @@ kind-allowed m h = ways (isKind (m .kind)) refl
     ways : (t : Bool) → isKind (m .kind) ≡ t → isKind (m .kind) ≡ true
     ways true e = e
     ways false e = absurd (true≢false (sym h ∙ no-kind m e))
-
--- ---- what an accepted record says
-pub record Told (b : List ℕ) (next : ℕ) (m : Message) (n : ℕ) : Type 0 where
-  pub whole : 11 ≤ length b
-  pub first : getD b 0 0 ≡ 0xB7
-  pub second : getD b 1 0 ≡ 0x1E
-  pub good : allowed m ≡ true
-  pub same : messageOf b ≡ m
-  pub place : next ≡ n
-
-module _ (b : List ℕ) (next : ℕ) (m : Message) (n : ℕ) (e : readBytes b next ≡ read.Record m n) where
-  never : (k : ℕ) → readBytes b next ≡ read.Refused k → Told b next m n
-  never k p = let z : _≡_ {A = ℕ} 0 1 = cc in absurd (omega arith)
-
-  ways : (t u v w x : Bool) → ltb (length b) 11 ≡ t → eqb (getD b 0 0) 0xB7 ≡ u → eqb (getD b 1 0) 0x1E ≡ v
-      → isKind (messageOf b .kind) ≡ w → allowed (messageOf b) ≡ x → Told b next m n
-  ways true u v w x p q r y z = never 15 (short b next (ltb-true _ _ p))
-  ways false false v w x p q r y z = never 16 (unmarked b next (ltb-false _ _ p) (simp q))
-  ways false true false w x p q r y z = never 16 (unmarked b next (ltb-false _ _ p) (simp (q, r)))
-  ways false true true false x p q r y z = never 17 (unkind b next (ltb-false _ _ p) (simp (q, r)) y)
-  ways false true true true false p q r y z = never 18 (unallowed b next (ltb-false _ _ p) (simp (q, r)) y z)
-  ways false true true true true p q r y z =
-      let a = accepted b next (ltb-false _ _ p) (simp (q, r)) y z in
-      let s : messageOf b ≡ m = cc in
-      let o : next ≡ n = cc in
-      record {
-        whole = ltb-false _ _ p;
-        first = eqb-true _ _ q;
-        second = eqb-true _ _ r;
-        good = ap allowed (sym s) ∙ z;
-        same = s;
-        place = o;
-      }
-
-  pub told : Told b next m n
-  told = ways _ _ _ _ _ refl refl refl refl refl
 
 -- ---- written, then read
 module _ (m : Message) (fits : m .number < 256 ^ 4) where

@@ -8,8 +8,8 @@ use native.Mathlib.Omega.{arith}
 use borrow.Author.Needs.{needs}
 use lib.ListN.{length, getD, set, length-set}
 use lib.Seq.{paste, paste-zero, paste-suc}
-use Rattle.record.proofs.put.store.Statement.{statement}
-use Rattle.record.proofs.put.store.Tie as tie
+use Rattle.writer.proofs.put.store.Statement.{statement}
+use Rattle.writer.proofs.put.store.Tie as tie
 
 abbrev Inv-loop : tie.InvT-loop
 Inv-loop buf₀ bytes i₀ buf i = (i ≤ 11) × (length bytes ≡ 11) × (length buf ≡ length buf₀) × (buf ≡ paste buf₀ 0 bytes i)

@@ -3,8 +3,8 @@ use Prim.Native.Nat.{_/_, _%_}
 use mathlib.Core.Path.{_≡_}
 use native.Mathlib.Omega.{arith}
 use borrow.Author.Needs.{needs}
-use Rattle.record.proofs.number.bytes_of.Statement.{statement}
-use Rattle.record.proofs.number.bytes_of.Tie as tie
+use Rattle.writer.proofs.number.bytes_of.Statement.{statement}
+use Rattle.writer.proofs.number.bytes_of.Tie as tie
 
 mul-low : tie.Need-mul-low
 mul-low c = search needs

@@ -4,13 +4,13 @@ use mathlib.Core.Path.{_≡_, sym, ap, _∙_}
 use native.Mathlib.Omega.{arith}
 use lib.ListN.{length}
 use borrow.Rule.Slice.PartMut.{midOf, putMid}
-use Rattle.record.specs.declared.put.Put.the-variants.{Next}
-use Rattle.record.specs.Put.{putAnswer, saidPut}
-use Rattle.record.proofs.Said.{said-put-injective}
-use Rattle.record.proofs.Lent.{accepted, moved, lent-answer, lent-content}
+use Rattle.writer.specs.declared.put.Put.the-variants.{Next}
+use Rattle.writer.specs.Put.{putAnswer, saidPut}
+use Rattle.writer.proofs.Said.{said-put-injective}
+use Rattle.writer.proofs.Lent.{accepted, moved, lent-answer, lent-content}
 use borrow.Author.Needs.{needs}
-use Rattle.record.proofs.put.put_at.Statement.{statement}
-use Rattle.record.proofs.put.put_at.Tie as tie
+use Rattle.writer.proofs.put.put_at.Statement.{statement}
+use Rattle.writer.proofs.put.put_at.Tie as tie
 
 room-from-requires : tie.Need-room-from-requires
 room-from-requires c κs = search needs

@@ -4,12 +4,12 @@ use Prim.Native.Nat.{ℕ}
 use mathlib.Core.Path.{_≡_, refl}
 use mathlib.Core.List.{List, [], _∷_}
 use lib.ListN.{replicate}
 use Rattle.record.specs.declared.message.Message.{Message}
-use Rattle.record.specs.declared.put.Put.the-variants as put
+use Rattle.writer.specs.declared.put.Put.the-variants as put
 use Rattle.record.specs.declared.read.Read.the-variants as read
 use Rattle.record.specs.Allowed.{others, demands, allowed}
-use Rattle.record.specs.Put.{putAnswer, putContent}
+use Rattle.writer.specs.Put.{putAnswer, putContent}
 use Rattle.record.specs.Read.{readBytes, readAt}
 
 abbrev askIn : ℕ → Message
 askIn wanted = record { kind = 3; station = 3; number = 258; profile = 5; mode = wanted; detail = 0 }

@@ -10,10 +10,10 @@ use lib.Dec.{leb}
 use lib.ListN.{length, getD, take, drop, length-take, length-map, drop-of-length-le}
 use lib.Seq.{take-all, drop-cons, getD-take}
 use borrow.Author.Tests.{leb-true, leb-false}
 use Rattle.record.specs.declared.message.Message.{Message}
-use Rattle.record.specs.declared.put.Put.the-variants.{Next, Refused}
-use Rattle.record.specs.Put.{putAnswer, putContent}
-use Rattle.record.specs.Run.{runAnswer, runContent}
+use Rattle.writer.specs.declared.put.Put.the-variants.{Next, Refused}
+use Rattle.writer.specs.Put.{putAnswer, putContent}
+use Rattle.writer.specs.Run.{runAnswer, runContent}
 
 pub mapped-length : {X Y : Type 0} (f : X → Y) (l : List X) (n : ℕ) → length (map f l) ≡ n → length l ≡ n
 mapped-length f l n e = sym (length-map l f) ∙ e

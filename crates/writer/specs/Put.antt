@@ -4,11 +4,11 @@ use mathlib.Core.Bool.{not, cond}
 use mathlib.Core.List.{List, [], _∷_, _++_}
 use lib.Dec.{ltb}
 use lib.ListN.{length, take, drop}
 use Rattle.record.specs.declared.message.Message.{Message}
-use Rattle.record.specs.declared.put.Put.{Put}
-use Rattle.record.specs.declared.put.Put.the-variants.{Next, Refused}
+use Rattle.writer.specs.declared.put.Put.{Put}
+use Rattle.writer.specs.declared.put.Put.the-variants.{Next, Refused}
 use Rattle.record.specs.Number.{digits}
 use Rattle.record.specs.Allowed.{allowed}
 
 -- "B7 1E, the house mark; kind; station ..; number, 4 bytes, high first; profile; mode; detail."
 abbrev pub bytesOf : Message → List ℕ

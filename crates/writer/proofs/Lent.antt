@@ -10,11 +10,11 @@ use lib.ListN.{length, drop, length-drop, drop-of-length-le}
 use lib.Seq.{take-all, drop-drop}
 use borrow.Author.Tests.{lt-ltb, le-ltb, ltb-true, ltb-false}
 use borrow.Rule.Slice.PartMut.{midOf, postOf, putMid, put-same}
 use Rattle.record.specs.declared.message.Message.{Message}
-use Rattle.record.specs.declared.put.Put.{Put}
-use Rattle.record.specs.declared.put.Put.the-variants.{Next, Refused}
+use Rattle.writer.specs.declared.put.Put.{Put}
+use Rattle.writer.specs.declared.put.Put.the-variants.{Next, Refused}
 use Rattle.record.specs.Allowed.{allowed}
-use Rattle.record.specs.Put.{putAnswer, putContent}
+use Rattle.writer.specs.Put.{putAnswer, putContent}
 
 -- what an accepted write says
 pub accepted : (m : Message) (at : ℕ) (l : List ℕ) (next : ℕ) → putAnswer m at l ≡ Next next

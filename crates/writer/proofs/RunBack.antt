@@ -7,16 +7,16 @@ use native.Mathlib.Nat.{add-zero, zero-add, suc-add}
 use native.Mathlib.Omega.{arith}
 use lib.ListN.{getD, take, drop}
 use lib.Seq.{take-take, take-at, length-take-le, take-nil}
 use Rattle.record.specs.declared.message.Message.{Message}
-use Rattle.record.specs.declared.put.Put.{Put}
-use Rattle.record.specs.declared.put.Put.the-variants as put
+use Rattle.writer.specs.declared.put.Put.{Put}
+use Rattle.writer.specs.declared.put.Put.the-variants as put
 use Rattle.record.specs.declared.read.Read.the-variants as read
-use Rattle.record.specs.Put.{bytesOf, putAnswer, putContent}
+use Rattle.writer.specs.Put.{bytesOf, putAnswer, putContent}
 use Rattle.record.specs.Read.{readBytes, readAt}
-use Rattle.record.specs.Run.{runAnswer, runContent}
-use Rattle.record.proofs.Lent.{accepted}
-use Rattle.record.proofs.Turns.{goes-answer, goes-content, ends-answer, ends-content}
-use Rattle.record.proofs.Round.{put-then-read}
+use Rattle.writer.specs.Run.{runAnswer, runContent}
+use Rattle.writer.proofs.Lent.{accepted}
+use Rattle.writer.proofs.Turns.{goes-answer, goes-content, ends-answer, ends-content}
+use Rattle.writer.proofs.Round.{put-then-read}
 
 -- ---- one record
 module _ (m : Message) (at : ℕ) (l : List ℕ) (next : ℕ) (e : putAnswer m at l ≡ put.Next next) where

@@ -1,7 +1,7 @@
 -- The array is the record's eleven bytes: the number's four are its digits.
 use borrow.Author.Needs.{needs}
-use Rattle.record.proofs.put.record_of.Statement.{statement}
-use Rattle.record.proofs.put.record_of.Tie as tie
+use Rattle.writer.proofs.put.record_of.Statement.{statement}
+use Rattle.writer.proofs.put.record_of.Tie as tie
 
 bytes-of-requires : tie.Need-bytes-of-requires
 bytes-of-requires c κs = search needs
