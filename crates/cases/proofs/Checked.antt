@@ -6,13 +6,13 @@ use Rattle.timing.specs.Phase.{phaseAfter}
 use Rattle.timing.specs.Lease.{leftOf}
 use Rattle.modes.specs.Modes.{isMode, goesWith, join}
 use Rattle.server.specs.State.{newServer}
-use Rattle.server.specs.Sets.{conflicts, wiped}
-use Rattle.server.specs.Ask.{askRule}
-use Rattle.server.specs.Hear.{heed, welcome, byStatus, ifNew, hear}
+use Rattle.profiles.specs.Sets.{conflicts, wiped}
+use Rattle.profiles.specs.Ask.{askRule}
+use Rattle.hearing.specs.Hear.{heed, welcome, byStatus, ifNew, hear}
 use Rattle.server.specs.Refusal.{refusal}
 use Rattle.server.specs.Tick.{free, startedSet, start}
 use Rattle.server.specs.Step.{message, tick, step}
-use Rattle.room.specs.Stage.{phaseAt}
+use Rattle.holds.specs.Stage.{phaseAt}
 use Rattle.cases.specs.Table.{table, Every}
 
 pub checked : Every table

@@ -11,15 +11,15 @@ use Rattle.timing.specs.Lease.{leftOf}
 use Rattle.record.specs.declared.message.Message.{Message}
 use Rattle.writer.specs.Put.{bytesOf}
 use Rattle.server.specs.declared.server.Server.{Server}
-use Rattle.server.specs.declared.event.Answer.{Answer}
-use Rattle.server.specs.declared.event.Answer.the-variants.{Wait, Ticked}
+use Rattle.profiles.specs.declared.answer.Answer.{Answer}
+use Rattle.profiles.specs.declared.answer.Answer.the-variants.{Wait, Ticked}
 use Rattle.server.specs.declared.event.Event.{Event}
 use Rattle.server.specs.declared.event.Event.the-variants.{Message as Says, Tick}
 use Rattle.requests.specs.declared.Request.the-variants.{Hello, KeepAlive, Ask}
 use Rattle.server.specs.State.{newServer}
 use Rattle.server.specs.Step.{step}
-use Rattle.room.specs.declared.stage.Standing.the-variants.{Open}
-use Rattle.room.specs.Stage.{phaseAt}
+use Rattle.holds.specs.declared.stage.Standing.the-variants.{Open}
+use Rattle.holds.specs.Stage.{phaseAt}
 
 -- settings of these four lengths and this rate allowance; answer time 5, two stations, one profile
 abbrev pub with : ℕ → ℕ → ℕ → ℕ → ℕ → ℕ → Settings

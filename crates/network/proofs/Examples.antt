@@ -9,9 +9,9 @@ use Rattle.timing.specs.Settings.{wait}
 use Rattle.timing.specs.Settings as settings
 use Rattle.timing.specs.Phase.{phaseAfter}
 use Rattle.server.specs.State.{newServer}
-use Rattle.server.specs.Sets.{wiped, conflicts}
-use Rattle.server.specs.Ask.{askRule}
-use Rattle.server.specs.Hear as hear
+use Rattle.profiles.specs.Sets.{wiped, conflicts}
+use Rattle.profiles.specs.Ask.{askRule}
+use Rattle.hearing.specs.Hear as hear
 use Rattle.server.specs.Tick as tick
 use Rattle.server.specs.Refusal as server-refusal
 use Rattle.server.specs.Step as server
@@ -19,8 +19,8 @@ use Rattle.server.specs.Border as server-border
 use Rattle.server.specs.Border.{sentFor}
 use Rattle.requests.specs.Request as requests
 use Rattle.modes.specs.Modes.{R}
-use Rattle.room.specs.Hold.{noHolds}
-use Rattle.room.specs.Stage.{phaseAt}
+use Rattle.holds.specs.Hold.{noHolds}
+use Rattle.holds.specs.Stage.{phaseAt}
 use Rattle.room.specs.Refusal as room-refusal
 use Rattle.room.specs.Rules as rules
 use Rattle.station.specs.Effect as effect

@@ -22,8 +22,8 @@ use Rattle.requests.specs.declared.Request.{Request}
 use Rattle.requests.specs.declared.Request.the-variants.{Hello, KeepAlive, Ask, Release, Keep}
 use Rattle.server.specs.declared.event.Event.{Event}
 use Rattle.server.specs.declared.event.Event.the-variants.{Message as Said, Tick}
-use Rattle.server.specs.declared.event.Answer.{Answer}
-use Rattle.server.specs.declared.event.Answer.the-variants.{Done, Granted}
+use Rattle.profiles.specs.declared.answer.Answer.{Answer}
+use Rattle.profiles.specs.declared.answer.Answer.the-variants.{Done, Granted}
 use Rattle.server.specs.State.{statusOf, lastOf, modeOf}
 use Rattle.server.specs.Refusal.{refusal}
 use Rattle.requests.specs.Request.{askedAs, requestOf}
@@ -36,7 +36,7 @@ use Rattle.server.proofs.Events.{refused, stale, nack-0, nack-1, hello, keep-al
 use Rattle.server.proofs.Cases.{Case, case-of}
 use Rattle.server.proofs.Reachable.{below, step-sound}
 use Rattle.server.proofs.Sent.{Acks, Sure, acks-of}
-use Rattle.room.specs.Stage.{isOut}
+use Rattle.holds.specs.Stage.{isOut}
 use Rattle.station.specs.Station.{modeOf as heldOf}
 use Rattle.network.specs.Picture.{World, Moment, hearing}
 use Rattle.network.proofs.Pair.{Slot, Held, Known, Covered, Fits, Inv, later, taken}

@@ -25,12 +25,12 @@ use Rattle.members.specs.declared.member.Status.the-variants.{Unknown, Live, Ti
 use Rattle.members.specs.declared.mark.Mark.{Mark}
 use Rattle.members.specs.declared.mark.Mark.the-variants.{Unmarked, Demanded}
 use Rattle.server.specs.declared.event.Event.the-variants as server
-use Rattle.server.specs.declared.event.Answer.{Answer as ServerAnswer}
-use Rattle.server.specs.declared.event.Answer.the-variants as says
+use Rattle.profiles.specs.declared.answer.Answer.{Answer as ServerAnswer}
+use Rattle.profiles.specs.declared.answer.Answer.the-variants as says
 use Rattle.server.specs.State.{nobody, noMark, emptyProfile, newServer}
-use Rattle.server.specs.Sets.{wiped, conflicts}
-use Rattle.server.specs.Ask.{askRule}
-use Rattle.server.specs.Hear.{heed, welcome, byStatus}
+use Rattle.profiles.specs.Sets.{wiped, conflicts}
+use Rattle.profiles.specs.Ask.{askRule}
+use Rattle.hearing.specs.Hear.{heed, welcome, byStatus}
 use Rattle.server.specs.Tick.{free, startedSet, start}
 use Rattle.server.specs.Refusal.{eventRefusal}
 use Rattle.server.specs.Step.{tick, step as serverStep}
@@ -38,9 +38,9 @@ use Rattle.server.specs.Border.{sentFor}
 use Rattle.server.proofs.Sent.{heard-back}
 use Rattle.record.specs.Message.{message}
 use Rattle.station.specs.declared.station.Station.{Station}
-use Rattle.room.specs.declared.hold.Hold.{Hold}
-use Rattle.room.specs.declared.stage.Standing.{Standing}
-use Rattle.room.specs.declared.stage.Standing.the-variants.{Out, Open}
+use Rattle.holds.specs.declared.hold.Hold.{Hold}
+use Rattle.holds.specs.declared.stage.Standing.{Standing}
+use Rattle.holds.specs.declared.stage.Standing.the-variants.{Out, Open}
 use Rattle.requests.specs.declared.Request.{Request}
 use Rattle.requests.specs.declared.Request.the-variants.{Hello, KeepAlive, Ask}
 use Rattle.room.specs.declared.event.Waiting.{Waiting}
@@ -51,7 +51,7 @@ use Rattle.room.specs.declared.event.Event.the-variants.{Send, Restart, Ack as 
 use Rattle.station.specs.declared.event.Answer.the-variants as answer
 use Rattle.station.specs.declared.event.UseAnswer.the-variants.{Yes}
 use Rattle.station.specs.declared.border.Meant.the-variants as to-room
-use Rattle.room.specs.Hold.{noHold, noHolds}
+use Rattle.holds.specs.Hold.{noHold, noHolds}
 use Rattle.requests.specs.Request.{requestRefusal, messageOf}
 use Rattle.room.specs.Refusal.{ackRefusal}
 use Rattle.room.specs.Rules.{lastNumber, sendRefusal, fits, ackProfile, ackForbids}

@@ -14,8 +14,8 @@ use Rattle.timing.specs.Phase.{edge1, edge2, phaseAfter}
 use Rattle.timing.proofs.Phases.{in-first, in-second}
 use Rattle.room.specs.declared.event.Event.{Event}
 use Rattle.station.specs.declared.station.Station.{Station}
-use Rattle.room.specs.declared.stage.Standing.the-variants.{Open}
-use Rattle.room.specs.Stage.{early, phaseAt, openPhase, isOut}
+use Rattle.holds.specs.declared.stage.Standing.the-variants.{Open}
+use Rattle.holds.specs.Stage.{early, phaseAt, openPhase, isOut}
 use Rattle.room.specs.Refusal.{stationOf, namedRefusal, refusal}
 use Rattle.station.specs.Effect.{lastAfter, answerTo}
 use Rattle.station.specs.Station.{isOver, atReading, gone, expire, refusalOf, forbids, after, stepped, isRestart, lost, lostIf, step}

@@ -17,7 +17,7 @@ use Rattle.timing.specs.declared.settings.Settings.{Settings}
 use Rattle.timing.specs.Settings.{lease}
 use Rattle.station.specs.declared.station.Station.{Station}
 use Rattle.station.specs.declared.station.Stepped.{Stepped}
-use Rattle.room.specs.declared.hold.Hold.{Hold}
+use Rattle.holds.specs.declared.hold.Hold.{Hold}
 use Rattle.requests.specs.declared.Request.{Request}
 use Rattle.room.specs.declared.event.Waiting.{Waiting}
 use Rattle.room.specs.declared.event.Waiting.the-variants.{Sent}
@@ -26,15 +26,15 @@ use Rattle.room.specs.declared.event.Ack.the-variants.{Done, Granted, Wait, InU
 use Rattle.room.specs.declared.event.Event.{Event}
 use Rattle.room.specs.declared.event.Event.the-variants.{Send, Begin, Edit, End, WriteOut, Restart, Ack as Acked, Nack as Nacked, Demand}
 use Rattle.station.specs.declared.event.Answer.the-variants as answer
-use Rattle.room.specs.declared.stage.Standing.the-variants.{Out, Open}
-use Rattle.room.specs.Stage.{isOut}
+use Rattle.holds.specs.declared.stage.Standing.the-variants.{Out, Open}
+use Rattle.holds.specs.Stage.{isOut}
 use Rattle.room.specs.Refusal.{refusal, stationOf}
-use Rattle.room.specs.Rules.{ackProfile}
+use Rattle.room.specs.Rules.{ackProfile, profileFor}
 use Rattle.station.specs.Effect.{sentAt, lastAfter, answerTo}
 use Rattle.station.specs.Station.{modeOf, leaseOf, gone, isOver, endedIf, expire, forbids, after, ifAllowed, ifGood, step}
 use Rattle.requests.specs.Request.{profileOf, messageOf}
 use Rattle.station.specs.Border.{sentBy, ackAs, meantAs, eventOf}
-use Rattle.station.proofs.Frames.{none-held, none-length, profileFor, modeAfter, mode-after, after-length, nacked-out}
+use Rattle.station.proofs.Frames.{none-held, none-length, modeAfter, mode-after, after-length, nacked-out}
 use Rattle.station.proofs.Shown.{isHello, sent-by, Fitting, ack-shows}
 use Rattle.station.proofs.Heard.{heard, heard-profile}
 use Rattle.station.proofs.Sent.{sent-station, message-number, is-hello, sent-modes, given-up}

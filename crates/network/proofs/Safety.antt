@@ -23,7 +23,7 @@ use Rattle.server.proofs.Reachable.{new-unknown, new-nothing, sound-new}
 use Rattle.station.specs.declared.station.Station.{Station}
 use Rattle.station.specs.declared.event.UseAnswer.the-variants.{Yes}
 use Rattle.room.specs.declared.event.Waiting.the-variants.{Nothing}
-use Rattle.room.specs.Stage.{isOut}
+use Rattle.holds.specs.Stage.{isOut}
 use Rattle.room.specs.Refusal.{useRefusal}
 use Rattle.station.specs.Station.{newStation, modeOf, leaseOf, usable, ifUse, mayUse}
 use Rattle.station.proofs.Frames.{none-held, none-length}

@@ -12,8 +12,8 @@ use Rattle.server.specs.declared.event.Event.{Event}
 use Rattle.server.specs.declared.event.Event.the-variants.{Message, Tick}
 use Rattle.requests.specs.declared.Request.{Request}
 use Rattle.server.specs.State.{memberAt, profileAt, lastOf, statusOf}
-use Rattle.server.specs.Sets.{liveSet}
-use Rattle.server.specs.Hear.{byStatus, numbered}
+use Rattle.profiles.specs.Sets.{liveSet}
+use Rattle.hearing.specs.Hear.{byStatus, numbered}
 use Rattle.server.specs.Refusal.{eventRefusal, refusal}
 use Rattle.requests.specs.Request.{profileOf}
 use Rattle.server.specs.Step.{afterHeard, tick, ifGood, step}

@@ -14,7 +14,7 @@ use Rattle.server.specs.declared.server.Server.{Server}
 use Rattle.server.specs.State.{statusOf, lastOf, modeOf as modeAt}
 use Rattle.server.proofs.Reachable.{Sound as ServerSound}
 use Rattle.station.specs.declared.station.Station.{Station}
-use Rattle.room.specs.Stage.{isOut}
+use Rattle.holds.specs.Stage.{isOut}
 use Rattle.station.specs.Station.{modeOf}
 use Rattle.network.specs.Picture.{World, Moment}
 use Rattle.network.proofs.Pair.{Slot, Seat, Inv, turned}

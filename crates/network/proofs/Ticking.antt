@@ -15,7 +15,7 @@ use Rattle.server.specs.declared.server.Server.{Server}
 use Rattle.server.specs.declared.server.Served.{Served}
 use Rattle.server.specs.declared.event.Event.the-variants.{Tick}
 use Rattle.server.specs.State.{statusOf, modeOf}
-use Rattle.server.specs.Sets.{isWaited}
+use Rattle.profiles.specs.Sets.{isWaited}
 use Rattle.server.specs.Refusal.{refusal}
 use Rattle.server.specs.Step.{step}
 use Rattle.server.proofs.Serves.{Accepted}

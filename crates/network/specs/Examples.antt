@@ -10,7 +10,7 @@ use Rattle.timing.specs.declared.settings.Settings.{Settings}
 use Rattle.timing.specs.Settings.{settings, wait}
 use Rattle.members.specs.declared.member.Status.the-variants.{Unknown, TimingOut}
 use Rattle.server.specs.State.{statusOf, modeOf as grantedTo}
-use Rattle.room.specs.declared.stage.Standing.the-variants.{Out, Closing}
+use Rattle.holds.specs.declared.stage.Standing.the-variants.{Out, Closing}
 use Rattle.requests.specs.declared.Request.the-variants.{Hello, KeepAlive, Ask, Release}
 use Rattle.room.specs.declared.event.Event.the-variants.{Send, Begin, Edit, End, WriteOut, Demand}
 use Rattle.station.specs.declared.event.Advice.the-variants as advice

@@ -3,9 +3,11 @@ use mathlib.Core.Bool.{Bool, true, false, cond, _&&_, _||_, not}
 use Prim.Native.Nat.{ℕ}
 use lib.Dec.{eqb, ltb}
 use Rattle.modes.specs.Modes.{covers, writes}
-use Rattle.room.specs.Event.{Request, Hello, KeepAlive, Ask, Release, Keep, Waiting, Nothing, Sent, Ack, Done, Granted, Wait, InUse}
-use Rattle.room.specs.Hold.{Hold, mostStarted}
-use Rattle.room.specs.Stage.{Stage}
+use Rattle.requests.specs.Request.{profileOf}
+use Rattle.room.specs.Event.{Request, Hello, KeepAlive, Ask, Release, Keep, Waiting, Nothing, Sent, Ack, Done, Granted, Wait, InUse, Event, Send, Begin, Edit, End, WriteOut, Restart, Acked, Nacked, Demand}
+use Rattle.holds.specs.declared.hold.Hold.{Hold}
+use Rattle.holds.specs.Hold.{mostStarted}
+use Rattle.holds.specs.declared.stage.Stage.{Stage}
 use Rattle.timing.specs.Reading.{passed, orElse}
 
 abbrev pub lastNumber : ℕ
@@ -99,3 +101,27 @@ ackForbids (Sent q t) lease now last k held a = cond (eqb k last && fits q held 
 unfoldable pub nackForbids : Waiting → ℕ → ℕ → ℕ
 nackForbids Nothing last k = 14
 nackForbids (Sent q t) last k = cond (eqb k last) 0 14
+
+-- the profile that an event names; 0 where it names none, and then what is held there does not matter
+abbrev pub profileFor : Event → ℕ
+profileFor (Send q) = profileOf q
+profileFor (Begin p m) = p
+profileFor (Edit p) = p
+profileFor (End p) = p
+profileFor (WriteOut p) = p
+profileFor Restart = 0
+profileFor (Acked i k a) = ackProfile a
+profileFor (Nacked i k d) = 0
+profileFor (Demand i p m) = p
+
+-- 8 to 14; `h` is what the room has on the profile that the event names
+abbrev pub eventForbids : Stage → Hold → Waiting → ℕ → ℕ → ℕ → Event → ℕ
+eventForbids stage h w lease now last (Send q) = sendRefusal stage h last q
+eventForbids stage h w lease now last (Begin p m) = beginRefusal stage h (m .0)
+eventForbids stage h w lease now last (Edit p) = editRefusal stage h
+eventForbids stage h w lease now last (End p) = endRefusal stage h
+eventForbids stage h w lease now last (WriteOut p) = writeOutRefusal stage h
+eventForbids stage h w lease now last Restart = 0
+eventForbids stage h w lease now last (Acked i k a) = ackForbids w lease now last k (h .mode .0) a
+eventForbids stage h w lease now last (Nacked i k d) = nackForbids w last k
+eventForbids stage h w lease now last (Demand i p m) = demandRefusal stage

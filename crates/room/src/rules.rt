@@ -1,13 +1,14 @@
 // Refusals 8 to 14 of each event, in rising order, or 0.
 use crate::event::Ack;
+use crate::event::Event;
 use crate::event::Request;
 use crate::event::Waiting;
-use crate::hold::Hold;
-use crate::stage::Stage;
+use holds::hold::Hold;
+use holds::stage::Stage;
 use modes::Mode;
 use timing::reading::Reading;
 ghost use mathlib.Core.Path.{_≡_};
-ghost use Rattle.room.specs.Rules.{numberRefusal, releaseRefusal, startedRefusal, sendingRefusal, helloRefusal, sendRefusal, beginRefusal, editRefusal, endRefusal, writeOutRefusal, demandRefusal, isDone, fitsAsk, fits, ackProfile, ackForbids, nackForbids};
+ghost use Rattle.room.specs.Rules.{numberRefusal, releaseRefusal, startedRefusal, sendingRefusal, helloRefusal, sendRefusal, beginRefusal, editRefusal, endRefusal, writeOutRefusal, demandRefusal, isDone, fitsAsk, fits, ackProfile, ackForbids, nackForbids, profileFor, eventForbids};
 
 // No message has a number above this one.
 pub const LAST_NUMBER: u32 = 4_294_967_295;
@@ -59,7 +60,7 @@ fn hello_refusal(stage: Stage, last: u32) -> u8
 }
 
 // `hold` is of the profile that the request names.
-pub fn send_refusal(stage: Stage, hold: Hold, last: u32, request: Request) -> u8
+fn send_refusal(stage: Stage, hold: Hold, last: u32, request: Request) -> u8
     ensures { λ r. ⌜ r ≡ sendRefusal stage hold last request ⌝ }
 {
     match request {
@@ -71,7 +72,7 @@ pub fn send_refusal(stage: Stage, hold: Hold, last: u32, request: Request) -> u8
     }
 }
 
-pub fn begin_refusal(stage: Stage, hold: Hold, mode: Mode) -> u8
+fn begin_refusal(stage: Stage, hold: Hold, mode: Mode) -> u8
     ensures { λ r. ⌜ r ≡ beginRefusal stage hold (mode .0) ⌝ }
 {
     if stage.out {
@@ -87,7 +88,7 @@ pub fn begin_refusal(stage: Stage, hold: Hold, mode: Mode) -> u8
     if hold.started < Hold::MOST { 0 } else { 11 }
 }
 
-pub fn edit_refusal(stage: Stage, hold: Hold) -> u8
+fn edit_refusal(stage: Stage, hold: Hold) -> u8
     ensures { λ r. ⌜ r ≡ editRefusal stage hold ⌝ }
 {
     if stage.out {
@@ -103,7 +104,7 @@ pub fn edit_refusal(stage: Stage, hold: Hold) -> u8
     started_refusal(hold)
 }
 
-pub fn end_refusal(stage: Stage, hold: Hold) -> u8
+fn end_refusal(stage: Stage, hold: Hold) -> u8
     ensures { λ r. ⌜ r ≡ endRefusal stage hold ⌝ }
 {
     if stage.out {
@@ -112,7 +113,7 @@ pub fn end_refusal(stage: Stage, hold: Hold) -> u8
     started_refusal(hold)
 }
 
-pub fn write_out_refusal(stage: Stage, hold: Hold) -> u8
+fn write_out_refusal(stage: Stage, hold: Hold) -> u8
     ensures { λ r. ⌜ r ≡ writeOutRefusal stage hold ⌝ }
 {
     if stage.out {
@@ -122,7 +123,7 @@ pub fn write_out_refusal(stage: Stage, hold: Hold) -> u8
     if held.writes() { 0 } else { 10 }
 }
 
-pub fn demand_refusal(stage: Stage) -> u8
+fn demand_refusal(stage: Stage) -> u8
     ensures { λ r. ⌜ r ≡ demandRefusal stage ⌝ }
 {
     if stage.out {
@@ -170,7 +171,7 @@ fn fits(request: Request, held: Mode, ack: Ack) -> bool
 }
 
 // The profile that an ACK names, 0 where it names none.
-pub fn ack_profile(ack: Ack) -> u8
+fn ack_profile(ack: Ack) -> u8
     ensures { λ r. ⌜ r ≡ ackProfile ack ⌝ }
 {
     match ack {
@@ -182,7 +183,7 @@ pub fn ack_profile(ack: Ack) -> u8
 }
 
 // `held` is the mode on the profile that the ACK names.
-pub fn ack_refusal(
+fn ack_refusal(
     waiting: Waiting,
     lease: u64,
     now: u64,
@@ -211,11 +212,56 @@ pub fn ack_refusal(
     }
 }
 
-pub fn nack_refusal(waiting: Waiting, last: u32, number: u32) -> u8
+fn nack_refusal(waiting: Waiting, last: u32, number: u32) -> u8
     ensures { λ r. ⌜ r ≡ nackForbids waiting last number ⌝ }
 {
     match waiting {
         Waiting::Nothing => 14,
         Waiting::Sent(_, _) => if number == last { 0 } else { 14 },
+    }
+}
+
+// The profile that an event names, 0 where it names none.
+pub fn profile_for(event: Event) -> u8
+    ensures { λ r. ⌜ r ≡ profileFor event ⌝ }
+{
+    match event {
+        Event::Send(request) => requests::profile_of(request),
+        Event::Begin(profile, _) => profile,
+        Event::Edit(profile) => profile,
+        Event::End(profile) => profile,
+        Event::WriteOut(profile) => profile,
+        Event::Restart => 0,
+        Event::Ack(_, _, ack) => ack_profile(ack),
+        Event::Nack(_, _, _) => 0,
+        Event::Demand(_, profile, _) => profile,
+    }
+}
+
+// `hold` is of the profile that the event names.
+pub fn forbids(
+    stage: Stage,
+    hold: Hold,
+    waiting: Waiting,
+    lease: u64,
+    now: u64,
+    last: u32,
+    event: Event,
+) -> u8
+    ensures { λ r. ⌜ r ≡ eventForbids stage hold waiting lease now last event ⌝ }
+{
+    match event {
+        Event::Send(request) => send_refusal(stage, hold, last, request),
+        Event::Begin(_, mode) => begin_refusal(stage, hold, mode),
+        Event::Edit(_) => edit_refusal(stage, hold),
+        Event::End(_) => end_refusal(stage, hold),
+        Event::WriteOut(_) => write_out_refusal(stage, hold),
+        Event::Restart => 0,
+        Event::Ack(_, number, ack) => {
+            let held = hold.mode;
+            ack_refusal(waiting, lease, now, last, number, held, ack)
+        }
+        Event::Nack(_, number, _) => nack_refusal(waiting, last, number),
+        Event::Demand(_, _, _) => demand_refusal(stage),
     }
 }

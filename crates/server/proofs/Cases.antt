@@ -9,8 +9,8 @@ use borrow.Author.Tests.{ltb-true, ltb-false}
 use Rattle.masks.specs.Mask.{any}
 use Rattle.modes.specs.declared.Mode.{Mode}
 use Rattle.server.specs.State.{Status, Unknown, Live, TimingOut, Server, statusOf, lastOf}
-use Rattle.server.specs.Hear.{Request, Hello, KeepAlive, Ask, Release, Keep}
-use Rattle.server.specs.Refusal.{Event, Message, Tick, refusal}
+use Rattle.server.specs.Event.{Request, Hello, KeepAlive, Ask, Release, Keep, Event, Message, Tick}
+use Rattle.server.specs.Refusal.{refusal}
 use Rattle.server.proofs.Serves.{Accepted}
 use Rattle.server.proofs.InTheWay.{holders, keptHolders}
 

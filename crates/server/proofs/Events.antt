@@ -14,10 +14,12 @@ use Rattle.masks.proofs.Sets.{has}
 use Rattle.modes.specs.Modes.{mode}
 use Rattle.modes.specs.declared.Mode.{Mode}
 use Rattle.server.specs.State.{Status, Unknown, Live, TimingOut, Unmarked, Member, Profile, Server, nobody, noMark, noProfile, memberAt, profileAt, modeIn, markIn, statusOf, lastOf, modeOf, markOf}
-use Rattle.server.specs.Sets.{only, everyone, isLive, isKept, liveSet, marksWith, remark, marksChanged, wiped, wipeMark, dropKept, demand, keepMark, clashes}
-use Rattle.server.specs.Ask.{Done, Granted, Wait, InUse, Nack, Refused, withRow, askRule, freeOrNot, keptOrWait}
-use Rattle.server.specs.Hear.{Request, Hello, KeepAlive, Ask, Release, Keep, Heard, answered, greeted, heed, welcome, ruledFor, byStatus, numbered, ifNew}
-use Rattle.server.specs.Refusal.{Event, Message, refusal}
+use Rattle.profiles.specs.Sets.{only, everyone, isLive, isKept, liveSet, marksWith, remark, marksChanged, wiped, wipeMark, dropKept, demand, keepMark, clashes}
+use Rattle.profiles.specs.Ask.{withRow, askRule, freeOrNot, keptOrWait}
+use Rattle.server.specs.Event.{Request, Hello, KeepAlive, Ask, Release, Keep, Event, Message, Done, Granted, Wait, InUse, Nack, Refused}
+use Rattle.hearing.specs.declared.Heard.{Heard}
+use Rattle.hearing.specs.Hear.{answered, greeted, heed, welcome, ruledFor, byStatus, numbered, ifNew}
+use Rattle.server.specs.Refusal.{refusal}
 use Rattle.requests.specs.Request.{profileOf}
 use Rattle.server.specs.Step.{afterHeard, atReading, ifGood, step}
 use Rattle.server.proofs.Frames.{mode-wiped, width-wiped}

@@ -14,7 +14,7 @@ use Rattle.masks.proofs.Sets.{has, changed, length-changed}
 use Rattle.modes.specs.Modes.{mode}
 use Rattle.modes.specs.declared.Mode.{Mode}
 use Rattle.server.specs.State.{Profile, noProfile, modeIn}
-use Rattle.server.specs.Sets.{onlyOf, noMode, wiped}
+use Rattle.profiles.specs.Sets.{onlyOf, noMode, wiped}
 
 pub cond-same : {A : Type 0} (b : Bool) (x : A) → cond b x x ≡ x
 cond-same true x = refl

@@ -12,10 +12,10 @@ use Rattle.masks.specs.Mask.{Set, count}
 use Rattle.masks.proofs.Sets.{has}
 use Rattle.modes.specs.Modes.{mode}
 use Rattle.server.specs.State.{Status, Live, Mark, Unmarked, Member, Profile, Server, nobody, noProfile, memberAt, profileAt, modeIn, markIn, statusOf, lastOf, modeOf, markOf}
-use Rattle.server.specs.Sets.{only, liveSet, marksChanged, wiped, wipeMark}
-use Rattle.server.specs.Ask.{Answer, Done, withMarks}
-use Rattle.server.specs.Hear.{Request, answered, greeted, byStatus, numbered, ifNew, hear}
-use Rattle.server.specs.Refusal.{Message}
+use Rattle.profiles.specs.Sets.{only, liveSet, marksChanged, wiped, wipeMark}
+use Rattle.profiles.specs.Ask.{withMarks}
+use Rattle.server.specs.Event.{Request, Message, Answer, Done}
+use Rattle.hearing.specs.Hear.{answered, greeted, byStatus, numbered, ifNew, hear}
 use Rattle.requests.specs.Request.{profileOf}
 use Rattle.server.specs.Step.{afterHeard, message, ifGood, step}
 use Rattle.server.proofs.Frames.{only-same, only-other, entry-wiped}

@@ -14,8 +14,8 @@ use Rattle.modes.specs.Modes.{mode, goesWith}
 use Rattle.modes.specs.declared.Mode.{Mode}
 use Rattle.modes.proofs.Laws.{symmetric, none-goes}
 use Rattle.server.specs.State.{Marked, Member, Server, nobody, noMark, profileAt, statusOf, modeOf, markOf}
-use Rattle.server.specs.Sets.{isLive, isKept, liveSet, marksWith, clashes, conflicts}
-use Rattle.server.specs.Ask.{wantedBy, inTheWay}
+use Rattle.profiles.specs.Sets.{isLive, isKept, liveSet, marksWith, clashes, conflicts}
+use Rattle.profiles.specs.Ask.{wantedBy, inTheWay}
 
 pub has-live : (ms : List Member) (j : ℕ) → has (liveSet ms) j ≡ isLive (getD ms j nobody .status)
 has-live ms j = has-those (λ (m : Member). isLive (m .status)) nobody ms j (λ h. refl)

@@ -1,6 +1,4 @@
-pub mod Under
 pub mod Refusals
-pub mod Asking
 pub mod Stepping
 pub mod Runs
 pub mod Told

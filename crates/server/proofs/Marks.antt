@@ -11,7 +11,7 @@ use borrow.Author.Tests.{eqb-true, eqb-false}
 use Rattle.masks.specs.Mask.{Set}
 use Rattle.masks.proofs.Sets.{has, changed, length-changed}
 use Rattle.server.specs.State.{Mark, Unmarked, Marked, Profile, noMark, noProfile, markIn}
-use Rattle.server.specs.Sets.{wipeMark, remark, marksChanged, wiped}
+use Rattle.profiles.specs.Sets.{wipeMark, remark, marksChanged, wiped}
 use Rattle.server.proofs.Frames.{cond-same, Whole, whole-wiped, whole-set}
 
 -- the mark of station j in a row of marks, and on profile p in a list of profiles

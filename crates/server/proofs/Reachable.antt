@@ -13,10 +13,8 @@ use Rattle.modes.specs.declared.Mode.{Mode}
 use Rattle.modes.proofs.Laws.{none-goes, join-small}
 use Rattle.timing.specs.declared.settings.Settings.{Settings}
 use Rattle.server.specs.State.{Status, Unknown, Live, TimingOut, Mark, Unmarked, Marked, Member, Profile, Server, nobody, noMark, emptyProfile, noProfile, newServer, modeIn, markIn, statusOf, lastOf, modeOf, markOf}
-use Rattle.server.specs.Sets.{isLive, isWaited, wipeMark, dropKept, demand, keepMark, clashes}
-use Rattle.server.specs.Ask.{Answer, Done}
-use Rattle.server.specs.Hear.{Request, Hello, Ask}
-use Rattle.server.specs.Refusal.{Event, Message, Tick}
+use Rattle.profiles.specs.Sets.{isLive, isWaited, wipeMark, dropKept, demand, keepMark, clashes}
+use Rattle.server.specs.Event.{Request, Hello, Ask, Event, Message, Tick, Answer, Done}
 use Rattle.requests.specs.Request.{profileOf}
 use Rattle.server.specs.Step.{Served, step}
 use Rattle.server.proofs.Refusals.{station-below, profile-below}

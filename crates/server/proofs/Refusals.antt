@@ -14,8 +14,8 @@ use Rattle.timing.proofs.Ranges.{ranges}
 use Rattle.timing.proofs.Choice as choice
 use Rattle.requests.specs.Request.{profileOf, requestRefusal}
 use Rattle.requests.proofs.Back.{named-below}
-use Rattle.server.specs.Hear.{Request}
-use Rattle.server.specs.Refusal.{Event, Message, eventRefusal, refusal}
+use Rattle.server.specs.Event.{Request, Event, Message}
+use Rattle.server.specs.Refusal.{eventRefusal, refusal}
 
 module _ (z : Settings) (last now : ℕ) (e : Event) where
   by-settings : (t : Bool) → inRange z ≡ t → refusal z last now e ≡ cond t (orElse (eventRefusal z e) (readingRefusal last now)) 1

@@ -9,11 +9,9 @@ use native.Mathlib.Omega.{arith}
 use lib.Dec.{eqb}
 use Rattle.record.specs.declared.message.Message.{Message}
 use Rattle.server.specs.State.{Status, Live}
-use Rattle.server.specs.Ask.{Answer, Done, Granted, Wait, InUse, Nack, Ticked, Refused}
+use Rattle.server.specs.Event.{Request, Hello, KeepAlive, Ask, Release, Keep, Message as Said, Answer, Done, Granted, Wait, InUse, Nack, Ticked, Refused}
 use Rattle.record.specs.Message.{message}
 use Rattle.requests.specs.Request.{messageOf, requestOf}
-use Rattle.server.specs.Hear.{Request, Hello, KeepAlive, Ask, Release, Keep}
-use Rattle.server.specs.Refusal.{Message as Said}
 use Rattle.server.specs.Border.{For, eventOf, firstIf, demandsFrom, sentFor}
 
 -- what a station says reaches the server as it was meant

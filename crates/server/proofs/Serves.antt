@@ -8,9 +8,8 @@ use lib.Dec.{eqb}
 use lib.ListN.{length}
 use borrow.Author.Tests.{eqb-true, ne-eqb, eq-eqb}
 use Rattle.server.specs.State.{Status, Mark, Server, statusOf, lastOf, modeOf, markOf}
-use Rattle.server.specs.Ask.{Answer}
-use Rattle.server.specs.Hear.{Request}
-use Rattle.server.specs.Refusal.{Event, Message, refusal}
+use Rattle.server.specs.Event.{Request, Event, Message, Answer}
+use Rattle.server.specs.Refusal.{refusal}
 use Rattle.server.specs.Step.{Served, step}
 use Rattle.server.proofs.Marks.{Full}
 

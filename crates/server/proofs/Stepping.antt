@@ -1,37 +1,24 @@
 -- The step put together: what the code puts back is what the rules say.
 -- Assumes nothing.
-use mathlib.Core.Path.{_≡_, refl, sym, ap, _∙_, fun-ext}
+use mathlib.Core.Path.{_≡_, refl, sym, ap, _∙_}
 use mathlib.Core.Bool.{Bool, true, false, cond}
-use mathlib.Core.List.{List, [], _∷_, map}
+use mathlib.Core.List.{List, [], map}
 use Prim.Native.Nat.{ℕ, zero, suc}
 use lib.Bits.{bitAnd}
 use lib.ListN.{getD, set}
-use Rattle.masks.specs.Mask.{Set, mask, both, changeUnder}
+use Rattle.masks.specs.Mask.{mask, both, changeUnder}
 use Rattle.masks.proofs.Laws.{under-in, mask-both}
 use Rattle.server.specs.State.{Unknown, TimingOut, Member, Profile, Server, memberAt, noProfile}
-use Rattle.server.specs.Sets.{only, liveSet, lateSet, wiped, turned, restatus}
-use Rattle.server.specs.Under.{wipedUnder}
-use Rattle.server.specs.Ask.{Ticked, Refused}
-use Rattle.server.specs.Hear.{Request, Heard, hear}
-use Rattle.server.specs.Refusal.{Event, refusal}
+use Rattle.profiles.specs.Sets.{only, liveSet, lateSet, wiped, turned, restatus}
+use Rattle.profiles.specs.Under.{wipedUnder}
+use Rattle.server.specs.Event.{Request, Event, Ticked, Refused}
+use Rattle.hearing.specs.declared.Heard.{Heard}
+use Rattle.hearing.specs.Hear.{hear}
+use Rattle.server.specs.Refusal.{refusal}
 use Rattle.server.specs.Tick.{freedSet, free, startedSet, start}
 use Rattle.requests.specs.Request.{profileOf}
 use Rattle.server.specs.Step.{wipedIf, afterHeard, message, tick, act, ifGood, step}
-use Rattle.server.proofs.Under.{wiped-under}
-
--- all profiles wiped by a mask are all profiles wiped in its set
-pub wiped-all : (s : Set) (m : ℕ) → m ≡ mask s → (xs : List Profile) → map (wipedUnder m) xs ≡ map (wiped s) xs
-wiped-all s m e xs =
-    ap (λ (n : ℕ). map (wipedUnder n) xs) e ∙ ap (λ (f : Profile → Profile). map f xs) (fun-ext (wiped-under s))
-
--- wiping nobody
-nobody-wiped : (x : Profile) → wipedUnder 0 x ≡ x
-unfolding wiped
-nobody-wiped x = wiped-under [] x
-
-pub none-wiped : (xs : List Profile) → xs ≡ map (wipedUnder 0) xs
-none-wiped [] = refl
-none-wiped (x ∷ xs) = λ i. sym (nobody-wiped x) i ∷ none-wiped xs i
+use Rattle.profiles.proofs.Under.{wiped-all, none-wiped}
 
 -- all profiles wiped of who is gone
 gone-wiped : (b : Bool) (i m : ℕ) → m ≡ mask (cond b (only i) []) → (xs : List Profile) → map (wipedUnder m) xs ≡ wipedIf b i xs

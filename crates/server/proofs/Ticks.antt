@@ -8,9 +8,8 @@ use lib.ListN.{length, getD, List·getD-eq-default}
 use Rattle.masks.specs.Mask.{Set, mask}
 use Rattle.masks.proofs.Sets.{has, no-right, has-both, has-either, has-those, changed, length-changed}
 use Rattle.server.specs.State.{Status, Unknown, TimingOut, Unmarked, Marked, Member, Profile, Server, nobody, noMark, markIn, statusOf, lastOf, modeOf, markOf}
-use Rattle.server.specs.Sets.{isLive, isWaited, isLate, lateSet, restatus, turned, liveSet, marksWith, wiped, wipeMark}
-use Rattle.server.specs.Ask.{Ticked}
-use Rattle.server.specs.Refusal.{Tick}
+use Rattle.profiles.specs.Sets.{isLive, isWaited, isLate, lateSet, restatus, turned, liveSet, marksWith, wiped, wipeMark}
+use Rattle.server.specs.Event.{Tick, Ticked}
 use Rattle.server.specs.Tick.{freedSet, free, startedSet, start}
 use Rattle.server.specs.Step.{tick, ifGood, step}
 use Rattle.server.proofs.Frames.{entry-wiped}

@@ -7,10 +7,8 @@ use native.Mathlib.Omega.{arith}
 use lib.Dec.{eqb}
 use Rattle.timing.specs.declared.settings.Settings.{Settings}
 use Rattle.server.specs.State.{Status, Unknown, Live, TimingOut, Mark, Unmarked, Demanded, Kept, Server, statusOf, markOf}
-use Rattle.server.specs.Sets.{isLive, isWaited, wipeMark, dropKept, demand, keepMark}
-use Rattle.server.specs.Ask.{Answer}
-use Rattle.server.specs.Refusal.{Event, Message, Tick}
-use Rattle.server.specs.Hear.{Hello, KeepAlive, Ask, Release, Keep}
+use Rattle.profiles.specs.Sets.{isLive, isWaited, wipeMark, dropKept, demand, keepMark}
+use Rattle.server.specs.Event.{Hello, KeepAlive, Ask, Release, Keep, Event, Message, Tick, Answer}
 use Rattle.server.specs.Step.{Served, step}
 use Rattle.server.proofs.Refusals.{reading-good}
 use Rattle.server.proofs.Serves.{Sized, Accepted, at, changedAt, allOf, own, allOn, Serves}

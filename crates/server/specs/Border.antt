@@ -9,9 +9,8 @@ use Rattle.record.specs.Message.{message}
 use Rattle.requests.specs.declared.Asked.{Asked}
 use Rattle.requests.specs.declared.Asked.the-variants as asked
 use Rattle.requests.specs.Request.{requestOf, saidRequest}
-use Rattle.server.specs.Ask.{Answer, Done, Granted, Wait, InUse, Nack, Ticked, Refused}
-use Rattle.server.specs.Refusal.{Message as Says, Tick}
-use Rattle.server.specs.Said.{Said, said}
+use Rattle.server.specs.Event.{Message as Says, Tick, Answer, Done, Granted, Wait, InUse, Nack, Ticked, Refused}
+use Rattle.profiles.specs.Said.{Said, said}
 pub use Rattle.server.specs.declared.border.Meant.{Meant}
 pub use Rattle.server.specs.declared.border.Meant.the-variants.{For, NotForServer}
 

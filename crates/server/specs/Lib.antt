@@ -1,11 +1,7 @@
 pub mod State
-pub mod Sets
-pub mod Ask
-pub mod Hear
+pub mod Event
 pub mod Tick
 pub mod Refusal
 pub mod Step
-pub mod Said
-pub mod Under
 pub mod Border
 pub mod Run

@@ -6,8 +6,7 @@ use Rattle.timing.specs.declared.settings.Settings.{Settings}
 use Rattle.timing.specs.Settings.{inRange}
 use Rattle.timing.specs.Reading.{orElse, readingRefusal}
 use Rattle.requests.specs.Request.{requestRefusal}
-pub use Rattle.server.specs.declared.event.Event.{Event}
-pub use Rattle.server.specs.declared.event.Event.the-variants.{Message, Tick}
+use Rattle.server.specs.Event.{Event, Message, Tick}
 
 -- 2: "station .. out of range"
 abbrev pub eventRefusal : Settings → Event → ℕ

@@ -1,8 +1,6 @@
 -- What the server has: of each station a status and a last number, of each profile a row of modes and a row of marks.
-use mathlib.Core.List.{[]}
 use Prim.Native.Nat.{ℕ}
 use lib.ListN.{getD, replicate}
-use Rattle.modes.specs.Modes.{mode}
 use Rattle.timing.specs.Limits.{mostStations, mostProfiles}
 use Rattle.timing.specs.declared.settings.Settings.{Settings}
 pub use Rattle.members.specs.declared.member.Status.{Status}
@@ -13,15 +11,9 @@ pub use Rattle.members.specs.declared.mark.Mark.the-variants.{Unmarked, Demande
 pub use Rattle.members.specs.declared.mark.Marked.{Marked}
 pub use Rattle.members.specs.Member.{nobody}
 pub use Rattle.members.specs.Mark.{noMark}
-pub use Rattle.server.specs.declared.profile.Profile.{Profile}
+pub use Rattle.profiles.specs.declared.profile.Profile.{Profile}
+pub use Rattle.profiles.specs.Profile.{emptyProfile, noProfile, modeIn, markIn}
 pub use Rattle.server.specs.declared.server.Server.{Server}
-
-abbrev pub emptyProfile : Profile
-emptyProfile = record { row = replicate mostStations (mode 0); marks = replicate mostStations noMark }
-
--- what stands beyond the last profile
-abbrev pub noProfile : Profile
-noProfile = record { row = []; marks = [] }
 
 unfoldable pub newServer : Settings → Server
 newServer z =
@@ -44,13 +36,6 @@ lastOf s i = memberAt s i .last
 
 abbrev pub profileAt : Server → ℕ → Profile
 profileAt s p = getD (s .profiles) p noProfile
-
--- the mode's number
-abbrev pub modeIn : Profile → ℕ → ℕ
-modeIn x i = getD (x .row) i (mode 0) .0
-
-abbrev pub markIn : Profile → ℕ → Mark
-markIn x i = getD (x .marks) i noMark .mark
 
 abbrev pub modeOf : Server → ℕ → ℕ → ℕ
 modeOf s i p = modeIn (profileAt s p) i

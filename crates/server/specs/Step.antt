@@ -7,11 +7,12 @@ use Rattle.masks.specs.Mask.{mask}
 use Rattle.timing.specs.declared.settings.Settings.{Settings}
 use Rattle.timing.specs.Settings.{settingsRefusal}
 use Rattle.server.specs.State.{newServer, Profile, Server, memberAt, profileAt}
-use Rattle.server.specs.Sets.{only, liveSet, wiped}
-use Rattle.server.specs.Ask.{Ticked, Refused}
+use Rattle.profiles.specs.Sets.{only, liveSet, wiped}
+use Rattle.server.specs.Event.{Request, Event, Message, Tick, Ticked, Refused}
 use Rattle.requests.specs.Request.{profileOf}
-use Rattle.server.specs.Hear.{Request, Heard, hear}
-use Rattle.server.specs.Refusal.{Event, Message, Tick, refusal}
+use Rattle.hearing.specs.declared.Heard.{Heard}
+use Rattle.hearing.specs.Hear.{hear}
+use Rattle.server.specs.Refusal.{refusal}
 use Rattle.server.specs.Tick.{freedSet, free, startedSet, start}
 pub use Rattle.server.specs.declared.server.Served.{Served}
 pub use Rattle.server.specs.declared.server.Made.{Made}

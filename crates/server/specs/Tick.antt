@@ -3,7 +3,7 @@ use mathlib.Core.List.{List, map}
 use Prim.Native.Nat.{ℕ}
 use Rattle.masks.specs.Mask.{Set, both}
 use Rattle.server.specs.State.{Unknown, TimingOut, Member, Profile, Server}
-use Rattle.server.specs.Sets.{isWaited, membersWith, liveSet, lateSet, wiped, turned}
+use Rattle.profiles.specs.Sets.{isWaited, membersWith, liveSet, lateSet, wiped, turned}
 
 abbrev pub withMembers : Server → List Member → Server
 withMembers s members =

@@ -2,14 +2,13 @@
 use crate::event::Answer;
 use crate::event::Event;
 use crate::event::Request;
-use crate::hear;
-use crate::profile;
-use crate::profile::Profile;
 use members::member;
 use members::member::Member;
 use members::member::Members;
 use members::member::Status;
 use members::member::Which;
+use profiles::profile;
+use profiles::profile::Profile;
 use timing::reading::Reading;
 use timing::settings::Settings;
 ghost use mathlib.Core.Path.{_≡_};
@@ -17,7 +16,7 @@ ghost use Prim.Native.Nat.{_<_};
 ghost use Rattle.timing.specs.Limits.{mostStations, mostProfiles};
 ghost use Rattle.timing.specs.Settings.{wait, waitAnswer};
 ghost use Rattle.server.specs.Refusal.{eventRefusal, refusal};
-ghost use Rattle.server.specs.Said.{said};
+ghost use Rattle.profiles.specs.Said.{said};
 ghost use Rattle.requests.specs.Request.{profileOf};
 ghost use Rattle.server.specs.Step.{made, message, tick, step};
 
@@ -117,7 +116,7 @@ impl Server {
         let members = self.members;
         let member = self.members[i];
         let profile = self.profiles[at];
-        let heard = hear::hear(member, profile, members, reading, i, number, request);
+        let heard = hearing::hear(member, profile, members, reading, i, number, request);
         let next_member = heard.member;
         let next_profile = heard.profile;
         let greeted = heard.greeted;
@@ -127,7 +126,7 @@ impl Server {
         self.profiles[at] = next_profile;
         // No branch for a hello alone: it would cost two more copies of the profiles.
         let profiles = self.profiles;
-        let left = profile::wipe_all(profiles, hear::gone(greeted, i));
+        let left = profile::wipe_all(profiles, hearing::gone(greeted, i));
         self.profiles = left;
         Served {
             server: self,

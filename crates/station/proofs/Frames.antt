@@ -11,12 +11,11 @@ use borrow.Author.Tests.{eqb-true, eqb-false}
 use Rattle.modes.specs.declared.Mode.{Mode}
 use Rattle.timing.specs.Limits.{mostProfiles}
 use Rattle.station.specs.Event.{Request, Hello, KeepAlive, Ask, Release, Keep, Ack, Done, Granted, Wait, InUse, Event, Send, Begin, Edit, End, WriteOut, Restart, Acked, Nacked, Demand, Hold, Standing, Out, Open, Closing}
-use Rattle.room.specs.Hold.{noHold, noHolds, holdIn, withMode, withUnwritten, changed}
-use Rattle.room.specs.Stage.{isOut}
-use Rattle.room.specs.Rules.{ackProfile}
+use Rattle.holds.specs.Hold.{noHold, noHolds, holdIn, withMode, withUnwritten, changed}
+use Rattle.holds.specs.Stage.{isOut}
+use Rattle.room.specs.Rules.{profileFor}
 use Rattle.station.specs.Effect.{nacked, standingAfter, sentAt, startAfter, lastAfter, waitingAfter, holdsAfter, begun, ended}
 use Rattle.station.specs.Station.{Station, holdAt, modeOf, gone, atReading, isOver, endedIf, expire, isRestart, after}
-use Rattle.requests.specs.Request.{profileOf}
 
 -- the lease's end
 module _ (s : Station) (now : ℕ) where
@@ -105,19 +104,7 @@ module _ (x : Station) (e : Event) where
   unfolding after
   after-holds = refl
 
--- the profile that an event names, 0 where it names none
-abbrev pub profileFor : Event → ℕ
-profileFor (Send q) = profileOf q
-profileFor (Begin p m) = p
-profileFor (Edit p) = p
-profileFor (End p) = p
-profileFor (WriteOut p) = p
-profileFor Restart = 0
-profileFor (Acked i k a) = ackProfile a
-profileFor (Nacked i k d) = 0
-profileFor (Demand i p m) = p
-
--- what it does to that profile's hold
+-- what an event does to the hold of the profile that it names
 abbrev pub sentChange : Request → Hold → Hold
 sentChange Hello h = h
 sentChange KeepAlive h = h

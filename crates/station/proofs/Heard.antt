@@ -15,7 +15,7 @@ use Rattle.requests.proofs.Back.{in-profiles, named-below}
 use Rattle.timing.specs.Reading.{readingRefusal}
 use Rattle.station.specs.Station.{Station, refusalOf}
 use Rattle.timing.proofs.Choice.{past-if, past-unless, or-zero, reading-good}
-use Rattle.station.proofs.Frames.{profileFor}
+use Rattle.room.specs.Rules.{profileFor}
 
 pub record Heard (s : Station) (now : ℕ) (e : Event) : Type 0 where
   pub range : inRange (s .settings) ≡ true

@@ -12,7 +12,8 @@ use Rattle.station.specs.Event.{Event}
 use Rattle.station.specs.Effect.{standingAfter, sentAt, startAfter, lastAfter, waitingAfter, answerTo}
 use Rattle.station.specs.Station.{Station, Stepped, modeOf, expire, lost, forbids, step}
 use Rattle.station.proofs.Steps.{isGood, Way, is-unheard, is-forbidden, is-done, way, unheard, forbidden, happens, good-done, done-good}
-use Rattle.station.proofs.Frames.{expire-settings, expire-number, expire-last, expire-reading, expire-length, after-settings, after-number, after-standing, after-start, after-last, after-reading, after-waiting, profileFor, modeAfter, mode-after}
+use Rattle.room.specs.Rules.{profileFor}
+use Rattle.station.proofs.Frames.{expire-settings, expire-number, expire-last, expire-reading, expire-length, after-settings, after-number, after-standing, after-start, after-last, after-reading, after-waiting, modeAfter, mode-after}
 use Rattle.station.proofs.Heard.{Heard, heard, heard-profile}
 use Rattle.station.proofs.Sound.{Sound}
 

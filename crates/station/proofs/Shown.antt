@@ -13,7 +13,7 @@ use Rattle.timing.specs.declared.settings.Phase.{Phase}
 use Rattle.timing.specs.declared.settings.Phase.the-variants as phase
 use Rattle.timing.specs.Phase.{phaseAfter}
 use Rattle.station.specs.Event.{Request, Hello, KeepAlive, Ask, Release, Keep, Waiting, Nothing, Sent, Ack, Granted, Send, Edit, End, WriteOut, Acked, Nacked, Standing, Out, Open, Closing, Stage}
-use Rattle.room.specs.Stage.{isOut, closingPhase, phaseAt, early}
+use Rattle.holds.specs.Stage.{isOut, closingPhase, phaseAt, early}
 use Rattle.timing.specs.Reading.{passed}
 use Rattle.room.specs.Rules.{numberRefusal, releaseRefusal, startedRefusal, sendingRefusal, sendRefusal, beginRefusal, editRefusal, endRefusal, writeOutRefusal, fits, ackProfile, ackForbids, nackForbids}
 use Rattle.station.specs.Station.{Station, holdAt, modeOf, startedOf, unwrittenOf, leaseOf, stageOf, forbids}

@@ -14,15 +14,15 @@ use Rattle.timing.specs.Limits.{readingLimit, mostProfiles}
 use Rattle.timing.specs.declared.settings.Settings.{Settings}
 use Rattle.station.specs.Event.{Request, Hello, KeepAlive, Ask, Release, Keep, Waiting, Nothing, Sent, Done, Granted, Wait, InUse, Event, Send, Begin, Edit, End, WriteOut, Restart, Acked, Nacked, Demand, Hold, Standing, Out, Open, Closing}
 use Rattle.requests.proofs.Back.{in-modes}
-use Rattle.room.specs.Hold.{noHold}
-use Rattle.room.specs.Stage.{isOut}
+use Rattle.holds.specs.Hold.{noHold}
+use Rattle.holds.specs.Stage.{isOut}
 use Rattle.room.specs.Refusal.{namedRefusal}
-use Rattle.room.specs.Rules.{lastNumber}
+use Rattle.room.specs.Rules.{lastNumber, profileFor}
 use Rattle.station.specs.Effect.{nacked, sentAt, begun}
 use Rattle.station.specs.Station.{Station, holdAt, modeOf, startedOf, unwrittenOf, newStation, gone, atReading, isOver, expire, isRestart, refusalOf, forbids, after, step}
 use Rattle.station.proofs.Ways.{free}
 use Rattle.station.proofs.Steps.{stepwise}
-use Rattle.station.proofs.Frames.{none-held, none-length, profileFor, holdChange, hold-after, hold-restarted, after-length, nacked-out, ends, lasts}
+use Rattle.station.proofs.Frames.{none-held, none-length, holdChange, hold-after, hold-restarted, after-length, nacked-out, ends, lasts}
 use Rattle.station.proofs.Shown.{isHello, sent-by, release-shows, begin-shows, edit-shows, end-shows, write-shows, ack-shows, grant-covers}
 use Rattle.station.proofs.Heard.{heard, heard-profile}
 

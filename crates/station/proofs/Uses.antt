@@ -14,15 +14,16 @@ use Rattle.timing.specs.declared.settings.Settings.{Settings}
 use Rattle.timing.specs.Settings.{inRange}
 use Rattle.timing.specs.Reading.{passed}
 use Rattle.requests.proofs.Back.{in-modes}
-use Rattle.room.specs.Hold.{withUnwritten}
-use Rattle.room.specs.Stage.{isOut}
+use Rattle.holds.specs.Hold.{withUnwritten}
+use Rattle.holds.specs.Stage.{isOut}
 use Rattle.room.specs.Refusal.{useRefusal}
 use Rattle.station.specs.Event.{Event, Begin, Edit, WriteOut}
 use Rattle.station.specs.Effect.{begun}
 use Rattle.station.specs.Station.{Station, Stepped, modeOf, leaseOf, atReading, isOver, expire, refusalOf, forbids, after, step, mayUse}
 use Rattle.station.specs.declared.event.UseAnswer.the-variants as use'
 use Rattle.station.proofs.Steps.{isGood, happens, good-done}
-use Rattle.station.proofs.Frames.{ends, lasts, profileFor, modes-kept}
+use Rattle.room.specs.Rules.{profileFor}
+use Rattle.station.proofs.Frames.{ends, lasts, modes-kept}
 use Rattle.station.proofs.Shown.{begin-shows, edit-shows, write-shows}
 use Rattle.station.proofs.Heard.{heard, heard-profile}
 

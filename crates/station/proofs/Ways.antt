@@ -15,12 +15,12 @@ use Rattle.modes.specs.declared.Mode.{Mode}
 use Rattle.timing.specs.declared.settings.Phase.{Phase}
 use Rattle.timing.specs.declared.settings.Settings.{Settings}
 use Rattle.timing.specs.Settings.{lease, inRange, leaseAnswer}
-use Rattle.station.specs.Event.{Request, Hello, KeepAlive, Ask, Release, Keep, Waiting, Ack, Event, Send, Begin, Edit, End, WriteOut, Restart, Acked, Nacked, Demand, Hold, Standing, Out, Stage}
-use Rattle.room.specs.Hold.{holdIn}
-use Rattle.room.specs.Stage.{isOut}
+use Rattle.station.specs.Event.{Request, Hello, KeepAlive, Ask, Release, Keep, Waiting, Event, Send, Begin, Edit, End, WriteOut, Restart, Acked, Nacked, Demand, Hold, Standing, Out, Stage}
+use Rattle.holds.specs.Hold.{holdIn}
+use Rattle.holds.specs.Stage.{isOut}
 use Rattle.timing.specs.Reading.{passed}
 use Rattle.room.specs.Refusal.{ownRefusal, refusal, useRefusal}
-use Rattle.room.specs.Rules.{lastNumber, numberRefusal, releaseRefusal, startedRefusal, sendingRefusal, sendRefusal, beginRefusal, endRefusal, ackProfile, ackForbids}
+use Rattle.room.specs.Rules.{lastNumber, numberRefusal, releaseRefusal, startedRefusal, sendingRefusal, sendRefusal, beginRefusal, endRefusal, profileFor, eventForbids}
 use Rattle.station.specs.Effect.{standingAfter, sentAt, startAfter, lastAfter, waitingAfter, holdsAfter, numberFree, countFree, Answer, answerTo}
 use Rattle.station.specs.Station.{Station, Stepped, leaseOf, isOver, endedIf, expire, lost, lostIf, isRestart, forbids, after, stepped, ifAllowed, judged, ifGood, step, ifAsked, usable, ifUse, holdAt, stageOf, mayUse}
 use Rattle.station.specs.declared.event.Answer.the-variants as answer
@@ -212,16 +212,11 @@ module _ (holds : List Hold) (e : Event) (d : countFree holds e ≡ true) (p : �
   pub room-down : e ≡ End p → 0 < h .started
   room-down q = ltb-true _ _ (counts (λ (n : ℕ). ltb 0 n) (sym (ap (countFree holds) q) ∙ d))
 
--- a rule on the stage and on one profile's hold, as the code finds them
-pub on-hold : (x : Station) (p : ℕ) (f : Stage → Hold → ℕ) (r : ℕ) (stage : Stage) (h : Hold)
-    → r ≡ f stage h → stage ≡ stageOf x → h ≡ holdAt x p → r ≡ f (stageOf x) (holdAt x p)
-on-hold x p f r stage h e d g = e ∙ both f d g
-
--- the ACK's rule, on the lease and on the mode held
-pub on-ack : (x : Station) (k : ℕ) (a : Ack) (r l p : ℕ) (h : Hold) → inRange (x .settings) ≡ true
-    → r ≡ ackForbids (x .waiting) l (x .reading) (x .last) k (h .mode .0) a → l ≡ leaseAnswer (x .settings)
-    → h ≡ holdIn (x .holds) p → p ≡ ackProfile a → (i : ℕ) → r ≡ forbids x (Acked i k a)
-on-ack x k a r l p h z e c f g i =
-    e
-    ∙ both (λ (l m : ℕ). ackForbids (x .waiting) l (x .reading) (x .last) k m a) (c ∙ lease-is (x .settings) z)
-    (ap (λ (h : Hold). h .mode .0) (f ∙ ap (holdIn (x .holds)) g))
+-- the rules, on the stage, the hold and the lease as the code finds them
+pub by-rules : (x : Station) (e : Event) (r l p : ℕ) (stage : Stage) (h : Hold) → inRange (x .settings) ≡ true
+    → r ≡ eventForbids stage h (x .waiting) l (x .reading) (x .last) e → stage ≡ stageOf x → h ≡ holdIn (x .holds) p → p ≡ profileFor e → l ≡ leaseAnswer (x .settings)
+    → r ≡ forbids x e
+by-rules x e r l p stage h z d s f g c =
+    d
+    ∙ both (λ (s : Stage) (h : Hold). eventForbids s h (x .waiting) l (x .reading) (x .last) e) s (f ∙ ap (holdIn (x .holds)) g)
+    ∙ ap (λ (l : ℕ). eventForbids (stageOf x) (holdAt x (profileFor e)) (x .waiting) l (x .reading) (x .last) e) (c ∙ lease-is (x .settings) z)

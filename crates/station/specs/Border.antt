@@ -5,7 +5,7 @@ use Prim.Native.Nat.{ℕ, zero, suc}
 use Rattle.modes.specs.Modes.{mode}
 use Rattle.requests.specs.Request.{saidRequest, messageOf}
 use Rattle.record.specs.declared.message.Message.{Message}
-use Rattle.station.specs.Event.{Request, Hello, KeepAlive, Ask, Release, Keep, Ack, Done, Granted, Wait, InUse, Event, Send, Begin, Edit, End, WriteOut, Restart, Acked, Nacked, Demand}
+use Rattle.station.specs.Event.{Ack, Done, Granted, Wait, InUse, Event, Send, Begin, Edit, End, WriteOut, Restart, Acked, Nacked, Demand}
 use Rattle.station.specs.Effect.{Answer}
 use Rattle.station.specs.declared.event.Answer.the-variants as answer
 pub use Rattle.station.specs.declared.border.Meant.{Meant}

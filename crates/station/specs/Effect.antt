@@ -5,7 +5,7 @@ use Prim.Native.Nat.{ℕ, _+_, _-_}
 use lib.Dec.{ltb}
 use Rattle.station.specs.Event.{Request, Hello, KeepAlive, Ask, Release, Keep, Waiting, Nothing, Sent, Ack, Done, Granted, Wait, InUse, Event, Send, Begin, Edit, End, WriteOut, Restart, Acked, Nacked, Demand, Hold, Standing, Out, Open, Closing}
 use Rattle.room.specs.Rules.{lastNumber}
-use Rattle.room.specs.Hold.{mostStarted, noHolds, holdIn, withMode, withStarted, withUnwritten, changed}
+use Rattle.holds.specs.Hold.{mostStarted, noHolds, holdIn, withMode, withStarted, withUnwritten, changed}
 pub use Rattle.station.specs.declared.event.Advice.{Advice}
 use Rattle.station.specs.declared.event.Advice.the-variants as advice
 pub use Rattle.station.specs.declared.event.Answer.{Answer}

@@ -7,7 +7,7 @@ pub use Rattle.room.specs.declared.event.Ack.{Ack}
 pub use Rattle.room.specs.declared.event.Ack.the-variants.{Done, Granted, Wait, InUse}
 pub use Rattle.room.specs.declared.event.Event.{Event}
 pub use Rattle.room.specs.declared.event.Event.the-variants.{Send, Begin, Edit, End, WriteOut, Restart, Ack as Acked, Nack as Nacked, Demand}
-pub use Rattle.room.specs.declared.hold.Hold.{Hold}
-pub use Rattle.room.specs.declared.stage.Standing.{Standing}
-pub use Rattle.room.specs.declared.stage.Standing.the-variants.{Out, Open, Closing}
-pub use Rattle.room.specs.declared.stage.Stage.{Stage}
+pub use Rattle.holds.specs.declared.hold.Hold.{Hold}
+pub use Rattle.holds.specs.declared.stage.Standing.{Standing}
+pub use Rattle.holds.specs.declared.stage.Standing.the-variants.{Out, Open, Closing}
+pub use Rattle.holds.specs.declared.stage.Stage.{Stage}

@@ -4,16 +4,15 @@ use mathlib.Core.List.{List, []}
 use Prim.Native.Nat.{ℕ, zero, suc, _+_}
 use lib.Dec.{ltb}
 use Rattle.masks.specs.Mask.{Set, mask, count}
-use Rattle.requests.specs.Request.{profileOf}
 use Rattle.modes.specs.Modes.{isMode}
 use Rattle.timing.specs.declared.settings.Settings.{Settings}
 use Rattle.timing.specs.Settings.{lease}
 use Rattle.station.specs.Event.{Nothing, Event, Send, Begin, Edit, End, WriteOut, Restart, Acked, Nacked, Demand, Hold, Out, Stage}
-use Rattle.room.specs.Hold.{noHolds, holdIn, unwrittenSet}
-use Rattle.room.specs.Stage.{isOut, phaseAt, stageAt}
+use Rattle.holds.specs.Hold.{noHolds, holdIn, unwrittenSet}
+use Rattle.holds.specs.Stage.{isOut, phaseAt, stageAt}
 use Rattle.timing.specs.Reading.{passed}
 use Rattle.room.specs.Refusal.{ownRefusal, refusal, phaseRefusal, useRefusal}
-use Rattle.room.specs.Rules.{sendRefusal, beginRefusal, editRefusal, endRefusal, writeOutRefusal, demandRefusal, ackProfile, ackForbids, nackForbids}
+use Rattle.room.specs.Rules.{profileFor, eventForbids}
 use Rattle.station.specs.Effect.{standingAfter, sentAt, startAfter, lastAfter, waitingAfter, holdsAfter, Answer, answerTo}
 use Rattle.station.specs.declared.event.Answer.the-variants as answer
 pub use Rattle.station.specs.declared.event.PhaseAnswer.{PhaseAnswer}
@@ -122,15 +121,8 @@ lost s now e = lostIf (isOver s now && not (isRestart e)) (s .holds)
 
 -- 8 to 14, at a station that has taken the event's reading
 abbrev pub forbids : Station → Event → ℕ
-forbids x (Send q) = sendRefusal (stageOf x) (holdAt x (profileOf q)) (x .last) q
-forbids x (Begin p m) = beginRefusal (stageOf x) (holdAt x p) (m .0)
-forbids x (Edit p) = editRefusal (stageOf x) (holdAt x p)
-forbids x (End p) = endRefusal (stageOf x) (holdAt x p)
-forbids x (WriteOut p) = writeOutRefusal (stageOf x) (holdAt x p)
-forbids x Restart = 0
-forbids x (Acked i k a) = ackForbids (x .waiting) (leaseOf x) (x .reading) (x .last) k (modeOf x (ackProfile a)) a
-forbids x (Nacked i k d) = nackForbids (x .waiting) (x .last) k
-forbids x (Demand i p m) = demandRefusal (stageOf x)
+forbids x e =
+    eventForbids (stageOf x) (holdAt x (profileFor e)) (x .waiting) (leaseOf x) (x .reading) (x .last) e
 
 -- where nothing forbids it
 unfoldable pub after : Station → Event → Station

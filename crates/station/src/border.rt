@@ -6,7 +6,6 @@ use modes::Mode;
 use record::Message;
 ghost use mathlib.Core.Path.{_≡_};
 ghost use Rattle.station.specs.Border.{saidMeant, ackAs, eventOf};
-ghost use Rattle.record.specs.Message.{message};
 ghost use Rattle.requests.specs.Request.{messageOf};
 
 // An event, or a message of the other side's kinds, which is the caller's to drop.

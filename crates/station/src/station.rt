@@ -5,12 +5,12 @@ use crate::event::Event;
 use crate::event::PhaseAnswer;
 use crate::event::UseAnswer;
 use crate::event::Waiting;
-use room::hold;
-use room::hold::Hold;
+use holds::hold;
+use holds::hold::Hold;
+use holds::stage;
+use holds::stage::Standing;
 use room::refusal;
 use room::rules;
-use room::stage;
-use room::stage::Standing;
 use timing::reading::Reading;
 use timing::settings::Settings;
 ghost use mathlib.Core.Path.{_≡_};
@@ -19,7 +19,7 @@ ghost use lib.Count.{ones};
 ghost use Rattle.masks.specs.Mask.{mask};
 ghost use Rattle.timing.specs.Settings.{inRange};
 ghost use Rattle.station.specs.Effect.{numberFree, countFree};
-ghost use Rattle.room.specs.Stage.{isOut};
+ghost use Rattle.holds.specs.Stage.{isOut};
 ghost use Rattle.timing.specs.Reading.{passed};
 ghost use Rattle.station.specs.Station.{isRestart, lostIf, endedIf, forbids, after, made, step, judged, phaseAsked, mayUse};
 ghost use Rattle.station.specs.Said.{told, saidPhase, saidUse};
@@ -181,33 +181,10 @@ impl Station {
         let standing = self.standing;
         let waiting = self.waiting;
         let holds = self.holds;
-        let last = self.last;
-        let at = stage::stage_of(settings, standing, self.start, self.reading);
-        match event {
-            Event::Send(request) => {
-                rules::send_refusal(
-                    at,
-                    hold::hold_at(holds, requests::profile_of(request)),
-                    last,
-                    request,
-                )
-            }
-            Event::Begin(profile, mode) => {
-                rules::begin_refusal(at, hold::hold_at(holds, profile), mode)
-            }
-            Event::Edit(profile) => rules::edit_refusal(at, hold::hold_at(holds, profile)),
-            Event::End(profile) => rules::end_refusal(at, hold::hold_at(holds, profile)),
-            Event::WriteOut(profile) => rules::write_out_refusal(at, hold::hold_at(holds, profile)),
-            Event::Restart => 0,
-            Event::Ack(_, number, ack) => {
-                let held = hold::hold_at(holds, rules::ack_profile(ack)).mode;
-                let lease = settings.lease();
-                let now = self.reading;
-                rules::ack_refusal(waiting, lease, now, last, number, held, ack)
-            }
-            Event::Nack(_, number, _) => rules::nack_refusal(waiting, last, number),
-            Event::Demand(_, _, _) => rules::demand_refusal(at),
-        }
+        let now = self.reading;
+        let at = stage::stage_of(settings, standing, self.start, now);
+        let held = hold::hold_at(holds, rules::profile_for(event));
+        rules::forbids(at, held, waiting, settings.lease(), now, self.last, event)
     }
 
     fn after(self, event: Event) -> Station

@@ -1,6 +1,6 @@
 -- `messages` puts the ACK or NACK first, then the demands.
 use mathlib.Core.Path.{sym, ap, _∙_}
-use Rattle.server.specs.Ask.{Answer}
+use Rattle.server.specs.Event.{Answer}
 use Rattle.server.specs.Border.{sentFor}
 use Rattle.server.specs.Run.{runOf}
 use borrow.Author.Needs.{needs}

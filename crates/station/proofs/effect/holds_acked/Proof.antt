@@ -1,7 +1,7 @@
 -- `holds_acked` sets the mode of a profile that is granted.
 use mathlib.Core.Path.{sym, ap, _∙_}
-use Rattle.room.specs.Hold.{withMode}
-use Rattle.room.proofs.Choice.{stored}
+use Rattle.holds.specs.Hold.{withMode}
+use Rattle.holds.proofs.Choice.{stored}
 use Rattle.station.specs.Effect.{holdsAcked}
 use Rattle.station.proofs.Others.{acked-holds}
 use borrow.Author.Needs.{needs}

@@ -1,11 +1,11 @@
 -- `holds_after` changes the hold that the event names.
 use Rattle.station.proofs.Ways.{room-up, room-down}
-use Rattle.room.proofs.Choice.{stored}
+use Rattle.holds.proofs.Choice.{stored}
 use native.Mathlib.Omega.{arith}
 use mathlib.Core.Path.{sym, ap, _∙_}
 use Rattle.station.specs.Effect.{holdsAfter, begun, ended}
 use mathlib.Core.Bool.{true, false}
-use Rattle.room.specs.Hold.{withUnwritten}
+use Rattle.holds.specs.Hold.{withUnwritten}
 use borrow.Author.Needs.{needs}
 use Rattle.station.proofs.effect.holds_after.Statement.{statement}
 use Rattle.station.proofs.effect.holds_after.Tie as tie

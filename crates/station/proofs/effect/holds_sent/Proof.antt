@@ -1,7 +1,7 @@
 -- `holds_sent` drops the mode of a profile that is released.
 use mathlib.Core.Path.{sym, ap, _∙_}
-use Rattle.room.specs.Hold.{withMode}
-use Rattle.room.proofs.Choice.{stored}
+use Rattle.holds.specs.Hold.{withMode}
+use Rattle.holds.proofs.Choice.{stored}
 use Rattle.station.specs.Effect.{holdsSent}
 use Rattle.station.proofs.Others.{sent-holds}
 use borrow.Author.Needs.{needs}

@@ -1,4 +1,8 @@
 -- `message` hears a station's message and puts back what it changed.
+use Rattle.profiles.specs.Sets.{liveSet}
+use Rattle.hearing.specs.Hear.{hear}
+use Rattle.hearing.proofs.Told.{heard-told}
+use Rattle.server.specs.State.{memberAt, profileAt}
 use Rattle.server.proofs.Stepping.{put-back}
 use borrow.Author.Needs.{needs}
 use Rattle.server.proofs.server.Server.message.Statement.{statement}
@@ -46,7 +50,7 @@ wipe-all-requires c κs = search needs
 returns : tie.Need-returns
 returns c =
     let a = c .before .before .before .before .before .before .before .before .before .before .args in
-    put-back (a .t1) (a .reading) (a .station) (a .number) (a .request) _ (c .before .before .before .before .before .before .before .before .before .profile-of .ensures) _ (c .before .before .before .before .before .hear .ensures) _ (c .before .gone .ensures) _ (c .wipe-all .ensures)
+    put-back (a .t1) (a .reading) (a .station) (a .number) (a .request) _ (c .before .before .before .before .before .before .before .before .before .profile-of .ensures) _ (heard-told _ (hear (liveSet (a .t1 .members)) (a .reading) (a .station) (a .number) (a .request) (memberAt (a .t1) (a .station)) (profileAt (a .t1) (c .before .before .before .before .before .before .before .before .before .profile-of .result))) (c .before .before .before .before .before .hear .ensures)) _ (c .before .gone .ensures) _ (c .wipe-all .ensures)
 
 pub message-spec : {M : Type 1} → statement M
 message-spec =

@@ -4,7 +4,7 @@ use Prim.Native.Nat.{ℕ}
 use Rattle.timing.specs.Settings.{wait}
 use Rattle.timing.proofs.Ranges.{answer-good}
 use Rattle.server.specs.State.{Server}
-use Rattle.server.specs.Said.{Said, said}
+use Rattle.profiles.specs.Said.{Said, said}
 use Rattle.server.specs.Refusal.{refusal}
 use Rattle.server.specs.Step.{Served, tick, act}
 use Rattle.server.proofs.Refusals.{settings-good, in-arrays}

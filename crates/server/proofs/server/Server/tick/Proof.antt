@@ -3,7 +3,7 @@ use mathlib.Core.Path.{ap, _∙_}
 use Prim.Native.Nat.{ℕ}
 use Rattle.masks.specs.Mask.{mask}
 use Rattle.timing.specs.Settings.{waitAnswer}
-use Rattle.server.specs.Sets.{lateSet}
+use Rattle.profiles.specs.Sets.{lateSet}
 use Rattle.server.specs.Tick.{freedSet}
 use Rattle.server.proofs.Stepping.{ticked}
 use borrow.Author.Needs.{needs}

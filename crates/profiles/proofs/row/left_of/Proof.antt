@@ -1,0 +1,13 @@
+-- `left_of` takes a mode away under the lowest bit.
+use borrow.Author.Tests.{eq-eqb, ne-eqb}
+use Rattle.profiles.proofs.row.left_of.Statement.{statement}
+use Rattle.profiles.proofs.row.left_of.Tie as tie
+
+returns : tie.Need-returns
+returns c = simp (eq-eqb _ _ (c .if1 .taken))
+
+returns-2 : tie.Need-returns-2
+returns-2 c = simp (ne-eqb _ _ (c .if1 .left))
+
+pub left-of-spec : {M : Type 1} → statement M
+left-of-spec = tie.close (tie.spec returns returns-2)

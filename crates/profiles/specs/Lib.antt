@@ -1,0 +1,5 @@
+pub mod Profile
+pub mod Sets
+pub mod Ask
+pub mod Under
+pub mod Said
