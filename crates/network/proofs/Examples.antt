@@ -3,7 +3,9 @@
 use mathlib.Core.Path.{_≡_, refl, sym, subst}
 use mathlib.Core.List.{List, [], _∷_, List·Memᴰ, List·Memᴰ·cases-cons, List·Memᴰ·not-nil, List·Memᴰ·head, List·Memᴰ·tail}
 use mathlib.Core.Logic.{_⊎_, inl, inr}
-use Prim.Native.Nat.{ℕ, _≤_}
+use Prim.Native.Nat.{ℕ, _+_, _<_, _≤_}
+use native.Mathlib.Nat.{le-refl}
+use native.Mathlib.Omega.{arith}
 use lib.Dec.{lit<, lit≤}
 use Rattle.timing.specs.Settings.{wait}
 use Rattle.timing.specs.Settings as settings
@@ -27,33 +29,43 @@ use Rattle.station.specs.Effect as effect
 use Rattle.station.specs.Station as room
 use Rattle.station.specs.Border as room-border
 use Rattle.modes.specs.Modes as modes
-use Rattle.network.specs.Picture.{Happening, gets, Moment, worldAtFirst, next, run}
-use Rattle.network.specs.Premises.{Happens, Permitted, begins, goes-on}
+use Rattle.network.specs.Picture.{Happening, ticks, gets, Moment, worldAtFirst, next, run}
+use Rattle.network.specs.Premises.{Clocks, Happens, Permitted, begins, goes-on}
 use Rattle.network.proofs.Together.{Together, at-together, later, together}
-use Rattle.network.specs.Examples.{small, at, after, demand, greeted, holding, renewed, Renewed, demanded, released, passed-on, PassedOn, timing-out, taken-over, TakenOver, closing, written, Written}
+use Rattle.network.specs.Examples.{small, at, after, demand, greeted, holding, renewed, Renewed, demanded, released, passed-on, PassedOn, timing-out, taken-over, TakenOver, closing, written, Written, behind, renewed-twice, overtaken, Overtaken}
 
 -- names all that a step computes with, so that one word opens it
 engines : ℕ
 unfolding run next worldAtFirst wait newServer wiped conflicts askRule phaseAfter noHolds phaseAt settings.lengthsGood settings.rateGood settings.countsGood hear.heed hear.welcome hear.byStatus hear.ifNew hear.hear tick.free tick.startedSet tick.start server-refusal.refusal server.message server.tick server.step server-border.eventOf server-border.sentFor room-refusal.refusal room-refusal.phaseRefusal room-refusal.useRefusal rules.sendRefusal rules.beginRefusal rules.editRefusal rules.endRefusal rules.writeOutRefusal rules.demandRefusal rules.fits rules.ackForbids rules.nackForbids effect.advised room.newStation room.endedIf room.after room.ifAllowed room.ifGood room.step room.phaseAsked room.mayUse room-border.eventOf requests.requestOf requests.messageOf room-border.sentBy modes.isMode modes.goesWith modes.covers modes.join modes.writes
 engines = 0
 
-record Told (t : ℕ) (h : List Moment) : Type 0 where
+-- a history that is permitted, and what is known of the clocks at each of its moments
+record Known (P : Moment → Type 0) (h : List Moment) : Type 0 where
   permitted : Permitted small (wait small) h
-  each : (m : Moment) → List·Memᴰ m h → Together t m
+  each : (m : Moment) → List·Memᴰ m h → P m
+
+-- one moment more: what is known of the old ones is enough for the premises, and holds of the new one, too
+module _ {P : Moment → Type 0} (Q : Moment → Type 0) (weaker : (m : Moment) → P m → Q m) (t : Moment) (this : Q t) where
+  one-more : {h : List Moment} → ((old : Moment) (i : ℕ) → Q old → i < small .stations → Clocks small old t i) → Happens small (after h) (t .what) → Known P h → Known Q (t ∷ h)
+  one-more {h} clocks can T =
+      record {
+        permitted = goes-on (λ old i a here. clocks old i (weaker old (T .each old a)) here) can (T .permitted);
+        each = λ n a. cases n (List·Memᴰ·cases-cons a);
+      }
+    where
+      cases : (n : Moment) → (n ≡ t) ⊎ List·Memᴰ n h → Q n
+      cases n (inl q) = subst Q (sym q) this
+      cases n (inr a) = weaker n (T .each n a)
+
+abbrev Told : ℕ → List Moment → Type 0
+Told t h = Known (Together t) h
 
 start : Told 0 []
 start = record { permitted = begins; each = λ m a. absurd (List·Memᴰ·not-nil a) }
 
 on : {t : ℕ} {h : List Moment} (t′ : ℕ) → t ≤ t′ → (e : Happening) → Happens small (after h) e → Told t h → Told t′ (at t′ e ∷ h)
-on {t} {h} t′ b e can T =
-    record {
-      permitted = goes-on (λ old i a here. together small (lit≤ tt) t′ old e i (later b old (T .each old a)) here) can (T .permitted);
-      each = λ n a. cases n (List·Memᴰ·cases-cons a);
-    }
-  where
-    cases : (n : Moment) → (n ≡ at t′ e) ⊎ List·Memᴰ n h → Together t′ n
-    cases n (inl q) = subst (Together t′) (sym q) (at-together t′ e)
-    cases n (inr a) = later b n (T .each n a)
+on t′ b e =
+    one-more (Together t′) (later b) (at t′ e) (at-together t′ e) (λ old i f here. together small (lit≤ tt) t′ old e i f here)
 
 told₀ : Told 0 greeted
 unfolding engines
@@ -196,4 +208,70 @@ nacked-room-wrote-out =
       still-held = refl;
       all-written = refl;
       none-lost = refl;
+    }
+
+-- the clocks of the last example: together up to 8, then those of the rooms two ticks behind, from 17 to r
+abbrev Behind : ℕ → Moment → Type 0
+Behind r m = (i : ℕ) → (m .server ≡ m .rooms i + 2) × (17 ≤ m .rooms i) × (m .rooms i ≤ r)
+
+abbrev Drifting : ℕ → Moment → Type 0
+Drifting r m = Together 8 m ⊎ Behind r m
+
+later-behind : {r r′ : ℕ} → r ≤ r′ → (m : Moment) → Drifting r m → Drifting r′ m
+later-behind b m (inl f) = inl f
+later-behind b m (inr f) = inr (λ i. (f i .0, f i .1, let l = f i .2 in omega (arith, l, b)))
+
+within-rate : (r : ℕ) → 17 ≤ r → (e : Happening) (old : Moment) (i : ℕ) → Drifting r old → Clocks small old (behind r e) i
+within-rate r late e old i (inl f) =
+    let s = f .0 in
+    let q = f .1 i in
+    record { server-on = omega (arith, s, late); room-on = omega (arith, s, q, late); rate = (omega (arith, s, q, late), omega (arith, s, q, late)) }
+within-rate r late e old i (inr f) =
+    let q = f i .0 in
+    let l = f i .2 in
+    record { server-on = omega (arith, q, l); room-on = l; rate = (omega (arith, q, l), omega (arith, q, l)) }
+
+drifts : {r : ℕ} {h : List Moment} (r′ : ℕ) → 17 ≤ r′ → r ≤ r′ → (e : Happening) → Happens small (after h) e → Known (Drifting r) h → Known (Drifting r′) (behind r′ e ∷ h)
+drifts r′ late b e =
+    one-more (Drifting r′) (later-behind b) (behind r′ e) (inr (λ i. (refl, late, le-refl r′)))
+    (λ old i f here. within-rate r′ late e old i f)
+
+told-renewed : Told 8 (at 8 ticks ∷ renewed-twice)
+unfolding engines
+told-renewed =
+    on 8 (lit≤ tt) _ tt
+    (on 8 (lit≤ tt) _ (lit< tt, List·Memᴰ·head refl)
+    (on 8 (lit≤ tt) _ (List·Memᴰ·head refl)
+    (on 8 (lit≤ tt) _ (lit< tt, refl)
+    (on 5 (lit≤ tt) _ (lit< tt, List·Memᴰ·head refl)
+    (on 5 (lit≤ tt) _ (List·Memᴰ·head refl)
+    (on 5 (lit≤ tt) _ (lit< tt, refl)
+    (on 3 (lit≤ tt) _ (List·Memᴰ·head refl)
+    (on 3 (lit≤ tt) _ (lit< tt, refl)
+    told-holding))))))))
+
+told-overtaken : Known (Drifting 18) overtaken
+unfolding engines
+told-overtaken =
+    drifts 18 (lit≤ tt) (lit≤ tt) _ (lit< tt, List·Memᴰ·head refl)
+    (drifts 18 (lit≤ tt) (lit≤ tt) _ (List·Memᴰ·head refl)
+    (drifts 18 (lit≤ tt) (lit≤ tt) _ (lit< tt, refl)
+    (drifts 18 (lit≤ tt) (lit≤ tt) _ (lit< tt, List·Memᴰ·head refl)
+    (drifts 18 (lit≤ tt) (lit≤ tt) _ (List·Memᴰ·head refl)
+    (drifts 18 (lit≤ tt) (lit≤ tt) _ (lit< tt, refl)
+    (drifts 18 (lit≤ tt) (lit≤ tt) _ tt
+    (drifts {r = 0} 17 (lit≤ tt) (lit≤ tt) _ tt
+    (record { permitted = told-renewed .permitted; each = λ m a. inl (told-renewed .each m a) }))))))))
+
+pub slow-holder-overtaken : Overtaken
+unfolding engines
+slow-holder-overtaken =
+    record {
+      permitted = told-overtaken .permitted;
+      times-out = refl;
+      still-uses = refl;
+      still-held = refl;
+      no-longer = refl;
+      other-uses = refl;
+      in-mode = refl;
     }

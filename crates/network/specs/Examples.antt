@@ -1,9 +1,9 @@
 -- Histories that are permitted, so that no claim about all of them is empty. Phases 4, 2, 2, 2, so the lease is 10; allowance 1/10,
--- so the wait is 12; answer time 5; two stations, one profile. All clocks read the same. A history stands latest first.
+-- so the wait is 12; answer time 5; two stations, one profile. All clocks read the same, but in the last. A history stands latest first.
 use mathlib.Core.Path.{_≡_}
 use mathlib.Core.Bool.{true, false}
 use mathlib.Core.List.{List, [], _∷_}
-use Prim.Native.Nat.{ℕ}
+use Prim.Native.Nat.{ℕ, _+_}
 use Rattle.modes.specs.Modes.{mode, R, X}
 use Rattle.record.specs.declared.message.Message.{Message}
 use Rattle.timing.specs.declared.settings.Settings.{Settings}
@@ -159,3 +159,36 @@ pub record Written : Type 0 where
   pub still-held : mayUse (after written .rooms 0) 8 0 ≡ use'.Yes
   pub all-written : unwrittenOf (after written .rooms 0) 0 ≡ false
   pub none-lost : step (after written .rooms 0) 10 (Send Hello) .lost ≡ 0
+
+-- 5: clocks that drift apart, as far as the rate rule lets them. They read the same up to 8, when room 0 has renewed its lease for the
+-- second time and the tick starts timing it out; then the rooms' clocks lose two ticks.
+abbrev pub behind : ℕ → Happening → Moment
+behind t e = record { server = t + 2; rooms = λ (i : ℕ). t; what = e }
+
+abbrev pub renewed-twice : List Moment
+renewed-twice =
+    at 8 (gets 0 (done 0 4)) ∷ at 8 (hears (alive 0 4)) ∷ at 8 (does 0 (Send KeepAlive))
+    ∷ at 5 (gets 0 (done 0 3)) ∷ at 5 (hears (alive 0 3)) ∷ at 5 (does 0 (Send KeepAlive))
+    ∷ at 3 (hears (asked 1 2 R)) ∷ at 3 (does 1 (Send (Ask 0 (mode R))))
+    ∷ holding
+
+-- at the server's 19, eleven ticks on, room 0 is nine ticks on and may still use: the tick frees nobody, as it would with a wait of 11
+abbrev pub nearly : List Moment
+nearly = behind 17 ticks ∷ at 8 ticks ∷ renewed-twice
+
+-- at 20 its lease has run, and the tick frees it; by then room 1 is out, too
+abbrev pub overtaken : List Moment
+overtaken =
+    behind 18 (gets 1 (granted 1 4 R)) ∷ behind 18 (hears (asked 1 4 R)) ∷ behind 18 (does 1 (Send (Ask 0 (mode R))))
+    ∷ behind 18 (gets 1 (done 1 3)) ∷ behind 18 (hears (hello 1 3)) ∷ behind 18 (does 1 (Send Hello))
+    ∷ behind 18 ticks
+    ∷ nearly
+
+pub record Overtaken : Type 0 where
+  pub permitted : Permitted small (wait small) overtaken
+  pub times-out : statusOf (after nearly .server) 0 ≡ TimingOut 8
+  pub still-uses : mayUse (after nearly .rooms 0) 17 0 ≡ use'.Yes
+  pub still-held : grantedTo (after nearly .server) 0 0 ≡ X
+  pub no-longer : mayUse (after overtaken .rooms 0) 18 0 ≡ use'.No
+  pub other-uses : mayUse (after overtaken .rooms 1) 18 0 ≡ use'.Yes
+  pub in-mode : modeOf (after overtaken .rooms 1) 0 ≡ R
