@@ -2,7 +2,7 @@
 -- Assumes nothing.
 use mathlib.Core.Path.{_≡_, refl, sym, ap, _∙_}
 use mathlib.Core.Bool.{Bool, true, false, cond, _&&_, and-eq-true-iff}
-use Prim.Native.Nat.{ℕ, _≤_}
+use Prim.Native.Nat.{ℕ, _<_, _≤_}
 use native.Mathlib.Omega.{arith}
 use lib.Dec.{leb}
 use borrow.Author.Tests.{le-leb, leb-true}
@@ -37,10 +37,10 @@ pub record Ranges (z : Settings) : Type 0 where
 both : (a b : Bool) → (a && b) ≡ true → (a ≡ true) × (b ≡ true)
 both a b = and-eq-true-iff a b .0
 
--- a test is false where what it would show is absurd
-pub not-so : (b : Bool) → (b ≡ true → ⊥) → false ≡ b
-not-so true h = absurd (h refl)
-not-so false h = refl
+-- a test is false where it would bound a number that is past the bound
+pub refuted : (b : Bool) (x y : ℕ) → (b ≡ true → x ≤ y) → y < x → false ≡ b
+refuted true x y f h = let g = f refl in absurd (omega arith)
+refuted false x y f h = refl
 
 bounds : (low high x : ℕ) → within low high x ≡ true → (low ≤ x) × (x ≤ high)
 bounds low high x e =
@@ -62,6 +62,10 @@ module _ (z : Settings) where
         four = leb-true _ _ (e3 .1);
         longest = bounds leaseShortest leaseLongest (lease z) (e4 .1) .1;
       }
+
+  -- none is longer than the whole
+  pub each : Lengths z → (z .phase1 ≤ leaseLongest) × (z .phase2 ≤ leaseLongest) × (z .phase3 ≤ leaseLongest) × (z .phase4 ≤ leaseLongest)
+  each k = let l = k .longest in (omega arith, omega arith, omega arith, omega arith)
 
   pub rates : rateGood z ≡ true → Rates z
   unfolding rateGood
