@@ -47,7 +47,7 @@ welcome (Ask p asked) m x = answered m x (Nack 1)
 welcome (Release p) m x = answered m x (Nack 1)
 welcome (Keep p) m x = answered m x (Nack 1)
 
--- "Timing out: NACK 0."
+-- "Timing out: NACK 0." .. "Nothing else changes."
 unfoldable pub byStatus : Status → Set → ℕ → ℕ → Request → Member → Profile → Heard
 byStatus Unknown live now me q m x = welcome q m x
 byStatus Live live now me q m x = heed live now me q m x

@@ -1,4 +1,4 @@
--- Document 01, 'Modes': who goes with whom, who covers whom, what two modes join to, who writes.
+-- The paper's 'Modes': who goes with whom, who covers whom, what two modes join to, who writes.
 -- A mode is its number. `goesWith`, `covers`, `join`, `writes` and `isMode` are the rules, total on every number: one above 6 counts
 -- as 0, no lock. What they are made of (`companions`, `goes`, `over` ..) is for numbers up to 6.
 use mathlib.Core.Bool.{Bool, true, false, cond, _&&_, _||_, not}

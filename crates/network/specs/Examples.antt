@@ -1,5 +1,5 @@
 -- Histories that are permitted, so that no claim about all of them is empty. Phases 4, 2, 2, 2, so the lease is 10; allowance 1/10,
--- so the wait is 12; answer time 5; two stations, one profile. All clocks read the same, but in the last. A history stands latest first.
+-- so the wait is 12; answer time 5; two stations, one profile. All clocks read the same, except in the last. A history stands latest first.
 use mathlib.Core.Path.{_≡_}
 use mathlib.Core.Bool.{true, false}
 use mathlib.Core.List.{List, [], _∷_}
@@ -172,7 +172,7 @@ renewed-twice =
     ∷ at 3 (hears (asked 1 2 R)) ∷ at 3 (does 1 (Send (Ask 0 (mode R))))
     ∷ holding
 
--- at the server's 19, eleven ticks on, room 0 is nine ticks on and may still use: the tick frees nobody, as it would with a wait of 11
+-- at the server's 19, eleven ticks on, room 0 is nine ticks on and may still use: the tick frees nobody; with a wait of 11 it would free room 0
 abbrev pub nearly : List Moment
 nearly = behind 17 ticks ∷ at 8 ticks ∷ renewed-twice
 

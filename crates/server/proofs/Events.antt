@@ -1,4 +1,4 @@
--- What each message changes and leaves: document 01, 'The server's rules', a law for each of its sentences, in the form of Serves.
+-- What each message changes and leaves: the paper's 'The server's rules', a law for each of its sentences, in the form of Serves.
 -- In all of them `sized` says that the lists have their lengths, as those of every reachable server do.
 -- Assumes nothing.
 use mathlib.Core.Path.{_≡_, refl, sym, ap, _∙_}

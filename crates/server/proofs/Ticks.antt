@@ -1,4 +1,4 @@
--- What a tick changes and leaves: document 01, 'The server's rules', in the form of Serves. Over the marks themselves: `isLateIn`.
+-- What a tick changes and leaves: the paper's 'The server's rules', in the form of Serves. Over the marks themselves: `isLateIn`.
 -- Assumes nothing.
 use mathlib.Core.Path.{_≡_, refl, sym, ap, _∙_}
 use mathlib.Core.Bool.{Bool, true, false, cond, _&&_, _||_}

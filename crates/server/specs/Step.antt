@@ -26,6 +26,7 @@ abbrev pub wipedIf : Bool → ℕ → List Profile → List Profile
 wipedIf true i profiles = map (wiped (only i)) profiles
 wipedIf false i profiles = profiles
 
+-- "7 changes the server's reading only": what was heard has then left station and profile as they were
 abbrev pub afterHeard : Server → ℕ → ℕ → ℕ → Heard → Served
 afterHeard s now i p h =
     record {

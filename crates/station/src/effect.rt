@@ -14,7 +14,7 @@ ghost use mathlib.Core.Path.{_≡_};
 ghost use mathlib.Core.Bool.{true};
 ghost use Rattle.station.specs.Effect.{standingAfter, nacked, sentAt, startAfter, lastAfter, waitingAfter, holdsSent, holdsAcked, holdsAfter, advised, answerTo, numberFree, countFree};
 
-pub fn standing_after(standing: Standing, event: Event) -> Standing
+pub(crate) fn standing_after(standing: Standing, event: Event) -> Standing
     ensures { λ r. ⌜ r ≡ standingAfter standing event ⌝ }
 {
     match event {
@@ -36,7 +36,7 @@ fn nacked(standing: Standing) -> Standing
 }
 
 // When the waiting message was sent.
-pub fn sent_at(waiting: Waiting) -> u64
+pub(crate) fn sent_at(waiting: Waiting) -> u64
     ensures { λ r. ⌜ r ≡ sentAt waiting ⌝ }
 {
     match waiting {
@@ -46,7 +46,7 @@ pub fn sent_at(waiting: Waiting) -> u64
 }
 
 // `sent` is when the waiting message was.
-pub fn start_after(start: u64, sent: u64, event: Event) -> u64
+pub(crate) fn start_after(start: u64, sent: u64, event: Event) -> u64
     ensures { λ r. ⌜ r ≡ startAfter start sent event ⌝ }
 {
     match event {
@@ -56,7 +56,7 @@ pub fn start_after(start: u64, sent: u64, event: Event) -> u64
     }
 }
 
-pub fn last_after(last: u32, event: Event) -> u32
+pub(crate) fn last_after(last: u32, event: Event) -> u32
     requires { ⌜ numberFree last event ≡ true ⌝ }
     ensures { λ r. ⌜ r ≡ lastAfter last event ⌝ }
 {
@@ -66,7 +66,7 @@ pub fn last_after(last: u32, event: Event) -> u32
     }
 }
 
-pub fn waiting_after(waiting: Waiting, reading: u64, event: Event) -> Waiting
+pub(crate) fn waiting_after(waiting: Waiting, reading: u64, event: Event) -> Waiting
     ensures { λ r. ⌜ r ≡ waitingAfter waiting reading event ⌝ }
 {
     match event {
@@ -104,7 +104,10 @@ fn holds_acked(holds: [Hold; Settings::PROFILES], ack: Ack) -> [Hold; Settings::
     }
 }
 
-pub fn holds_after(holds: [Hold; Settings::PROFILES], event: Event) -> [Hold; Settings::PROFILES]
+pub(crate) fn holds_after(
+    holds: [Hold; Settings::PROFILES],
+    event: Event,
+) -> [Hold; Settings::PROFILES]
     requires { ⌜ countFree holds event ≡ true ⌝ }
     ensures { λ r. ⌜ r ≡ holdsAfter holds event ⌝ }
 {
@@ -147,7 +150,7 @@ fn advice(hold: Hold) -> Advice
 }
 
 // `number` is the last one after the event.
-pub fn answer_to(number: u32, holds: [Hold; Settings::PROFILES], event: Event) -> Answer
+pub(crate) fn answer_to(number: u32, holds: [Hold; Settings::PROFILES], event: Event) -> Answer
     ensures { λ r. ⌜ r ≡ answerTo number holds event ⌝ }
 {
     match event {

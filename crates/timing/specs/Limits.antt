@@ -1,4 +1,4 @@
--- Document 01, 'Settings and clocks': the limits, each once.
+-- The paper's 'Settings and clocks': the limits, each once.
 use Prim.Native.Nat.{ℕ}
 
 -- "Readings run from 0 to 4,000,000,000,000."
