@@ -176,19 +176,24 @@ renewed-twice =
 abbrev pub nearly : List Moment
 nearly = behind 17 ticks ∷ at 8 ticks ∷ renewed-twice
 
--- at 20 its lease has run, and the tick frees it; by then room 1 is out, too
+-- at 20 its lease has run, and the tick frees it
+abbrev pub passed-by : List Moment
+passed-by = behind 18 ticks ∷ nearly
+
+-- by then room 1 is out, too
 abbrev pub overtaken : List Moment
 overtaken =
     behind 18 (gets 1 (granted 1 4 R)) ∷ behind 18 (hears (asked 1 4 R)) ∷ behind 18 (does 1 (Send (Ask 0 (mode R))))
     ∷ behind 18 (gets 1 (done 1 3)) ∷ behind 18 (hears (hello 1 3)) ∷ behind 18 (does 1 (Send Hello))
-    ∷ behind 18 ticks
-    ∷ nearly
+    ∷ passed-by
 
 pub record Overtaken : Type 0 where
   pub permitted : Permitted small (wait small) overtaken
   pub times-out : statusOf (after nearly .server) 0 ≡ TimingOut 8
   pub still-uses : mayUse (after nearly .rooms 0) 17 0 ≡ use'.Yes
   pub still-held : grantedTo (after nearly .server) 0 0 ≡ X
-  pub no-longer : mayUse (after overtaken .rooms 0) 18 0 ≡ use'.No
+  pub too-early : statusOf (run small 11 nearly .server) 0 ≡ Unknown
+  pub unknown : statusOf (after passed-by .server) 0 ≡ Unknown
+  pub no-longer : mayUse (after passed-by .rooms 0) 18 0 ≡ use'.No
   pub other-uses : mayUse (after overtaken .rooms 1) 18 0 ≡ use'.Yes
   pub in-mode : modeOf (after overtaken .rooms 1) 0 ≡ R

@@ -1,10 +1,8 @@
 -- `hear` judges a message by its number and the station's status.
-use mathlib.Core.Path.{sym, ap, _∙_}
-use mathlib.Core.Bool.{Bool}
-use borrow.Author.Tests.{lt-ltb, le-ltb}
-use Rattle.members.specs.declared.member.Status.{Status}
+use Rattle.members.specs.declared.member.Status.the-variants.{Unknown, Live}
 use Rattle.profiles.specs.Sets.{liveSet}
-use Rattle.hearing.specs.Hear.{numbered, byStatus, ifNew, hear, told}
+use Rattle.hearing.specs.Hear.{byStatus}
+use Rattle.hearing.proofs.Ways.{stale, fresh}
 use borrow.Author.Needs.{needs}
 use Rattle.hearing.proofs.hear.Statement.{statement}
 use Rattle.hearing.proofs.hear.Tie as tie
@@ -13,11 +11,9 @@ answered-requires : tie.Need-answered-requires
 answered-requires c κs = search needs
 
 returns : tie.Need-returns
-unfolding hear ifNew byStatus
 returns c =
     let a = c .before .before .before .args in
-    ap told
-    (c .answered .ensures ∙ ap (λ (t : Bool). ifNew t (liveSet (a .members)) (a .now) (a .me) (a .number) (a .request) (a .member) (a .profile)) (sym (le-ltb _ _ (c .before .if1 .taken))))
+    stale (liveSet (a .members)) (a .now) (a .me) (a .number) (a .request) (a .member) (a .profile) _ (c .before .if1 .taken) (c .answered .ensures)
 
 enum-told : tie.Need-enum-told
 enum-told c = search needs
@@ -38,31 +34,22 @@ answered-requires-2 : tie.Need-answered-requires-2
 answered-requires-2 c κs = search needs
 
 returns-2 : tie.Need-returns-2
-unfolding hear ifNew byStatus
+unfolding byStatus
 returns-2 c =
     let a = c .before .before .before .before .before .args in
-    ap told
-    (c .welcome .ensures
-    ∙ ap (λ (t : Status). byStatus t (liveSet (a .members)) (a .now) (a .me) (a .request) (numbered (a .number) (a .member)) (a .profile)) (sym (c .before .enum-told .given .1))
-    ∙ ap (λ (t : Bool). ifNew t (liveSet (a .members)) (a .now) (a .me) (a .number) (a .request) (a .member) (a .profile)) (sym (lt-ltb _ _ (c .before .before .before .if1 .left))))
+    fresh (liveSet (a .members)) (a .now) (a .me) (a .number) (a .request) (a .member) (a .profile) _ (c .before .before .before .if1 .left) Unknown (c .before .enum-told .given .1) (c .welcome .ensures)
 
 returns-3 : tie.Need-returns-3
-unfolding hear ifNew byStatus
+unfolding byStatus
 returns-3 c =
     let a = c .before .before .before .before .before .args in
-    ap told
-    (c .heed .ensures
-    ∙ ap (λ (t : Status). byStatus t (liveSet (a .members)) (a .now) (a .me) (a .request) (numbered (a .number) (a .member)) (a .profile)) (sym (c .before .enum-told2 .given .1))
-    ∙ ap (λ (t : Bool). ifNew t (liveSet (a .members)) (a .now) (a .me) (a .number) (a .request) (a .member) (a .profile)) (sym (lt-ltb _ _ (c .before .before .before .if1 .left))))
+    fresh (liveSet (a .members)) (a .now) (a .me) (a .number) (a .request) (a .member) (a .profile) _ (c .before .before .before .if1 .left) Live (c .before .enum-told2 .given .1) (c .heed .ensures)
 
 returns-4 : tie.Need-returns-4
-unfolding hear ifNew byStatus
+unfolding byStatus
 returns-4 c =
     let a = c .before .before .before .before .before .args in
-    ap told
-    (c .answered2 .ensures
-    ∙ ap (λ (t : Status). byStatus t (liveSet (a .members)) (a .now) (a .me) (a .request) (numbered (a .number) (a .member)) (a .profile)) (sym (c .before .enum-told3 .given .1))
-    ∙ ap (λ (t : Bool). ifNew t (liveSet (a .members)) (a .now) (a .me) (a .number) (a .request) (a .member) (a .profile)) (sym (lt-ltb _ _ (c .before .before .before .if1 .left))))
+    fresh (liveSet (a .members)) (a .now) (a .me) (a .number) (a .request) (a .member) (a .profile) _ (c .before .before .before .if1 .left) _ (c .before .enum-told3 .given .1) (c .answered2 .ensures)
 
 pub hear-spec : {M : Type 1} → statement M
 hear-spec =
