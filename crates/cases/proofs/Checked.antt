@@ -9,7 +9,7 @@ use Rattle.server.specs.State.{newServer}
 use Rattle.profiles.specs.Sets.{conflicts, wiped}
 use Rattle.profiles.specs.Ask.{askRule}
 use Rattle.hearing.specs.Hear.{heed, welcome, byStatus, ifNew, hear}
-use Rattle.server.specs.Refusal.{refusal}
+use Rattle.judging.specs.Refusal.{refusal}
 use Rattle.server.specs.Tick.{free, startedSet, start}
 use Rattle.server.specs.Step.{message, tick, step}
 use Rattle.holds.specs.Stage.{phaseAt}

@@ -13,8 +13,8 @@ use Rattle.writer.specs.Put.{bytesOf}
 use Rattle.server.specs.declared.server.Server.{Server}
 use Rattle.profiles.specs.declared.answer.Answer.{Answer}
 use Rattle.profiles.specs.declared.answer.Answer.the-variants.{Wait, Ticked}
-use Rattle.server.specs.declared.event.Event.{Event}
-use Rattle.server.specs.declared.event.Event.the-variants.{Message as Says, Tick}
+use Rattle.judging.specs.declared.event.Event.{Event}
+use Rattle.judging.specs.declared.event.Event.the-variants.{Message as Says, Tick}
 use Rattle.requests.specs.declared.Request.the-variants.{Hello, KeepAlive, Ask}
 use Rattle.server.specs.State.{newServer}
 use Rattle.server.specs.Step.{step}

@@ -1,1 +1,2 @@
 pub mod Hear
+pub mod Needs

@@ -1,6 +1,5 @@
 // A station's message, judged on that station and the one profile that it names.
 use members::member::Member;
-use members::member::Members;
 use members::member::Status;
 use profiles::answer::Answer;
 use profiles::ask;
@@ -10,9 +9,11 @@ use timing::settings::Settings;
 ghost use mathlib.Core.Path.{_≡_};
 ghost use mathlib.Core.Bool.{cond};
 ghost use mathlib.Core.List.{[]};
-ghost use Rattle.masks.specs.Mask.{mask};
-ghost use Rattle.profiles.specs.Sets.{liveSet, only};
+ghost use Rattle.masks.specs.Mask.{mask, setOf};
+ghost use Rattle.timing.specs.Limits.{mostStations};
+ghost use Rattle.profiles.specs.Sets.{only};
 ghost use Rattle.hearing.specs.Hear.{answered, greeted, heed, welcome, hear, told};
+ghost use Rattle.hearing.specs.Needs.{names, looks, asks};
 
 // The station and the profile afterwards, whether all that the station had is to go, and the answer.
 pub struct Heard {
@@ -48,21 +49,14 @@ fn greeted(member: Member, profile: Profile) -> Heard
 }
 
 // What a live station's message does.
-fn heed(
-    member: Member,
-    profile: Profile,
-    members: Members,
-    now: u64,
-    me: usize,
-    request: Request,
-) -> Heard
-    ensures { λ r. ⌜ r ≡ heed (liveSet members) now me request member profile ⌝ }
+fn heed(member: Member, profile: Profile, live: u64, now: u64, me: usize, request: Request) -> Heard
+    ensures { λ r. ⌜ r ≡ heed (setOf mostStations live) now me request member profile ⌝ }
 {
     match request {
         Request::Hello => greeted(member, profile),
         Request::KeepAlive => answered(member, profile, Answer::Done),
         Request::Ask(number, asked) => {
-            let ruled = ask::ask(profile, number, members, me, asked, now);
+            let ruled = ask::ask(profile, number, live, me, asked, now);
             let next = ruled.profile;
             let answer = ruled.answer;
             answered(member, next, answer)
@@ -99,16 +93,17 @@ fn welcome(member: Member, profile: Profile, request: Request) -> Heard
     }
 }
 
+// `live` is the set of the live stations, which an ask needs to know.
 pub fn hear(
     member: Member,
     profile: Profile,
-    members: Members,
+    live: u64,
     now: u64,
     me: usize,
     number: u32,
     request: Request,
 ) -> Heard
-    ensures { λ r. ⌜ told r ≡ told (hear (liveSet members) now me number request member profile) ⌝ }
+    ensures { λ r. ⌜ told r ≡ told (hear (setOf mostStations live) now me number request member profile) ⌝ }
 {
     if number <= member.last {
         return answered(member, profile, Answer::Refused(7));
@@ -120,7 +115,48 @@ pub fn hear(
     };
     match status {
         Status::Unknown => welcome(noted, profile, request),
-        Status::Live => heed(noted, profile, members, now, me, request),
+        Status::Live => heed(noted, profile, live, now, me, request),
         Status::TimingOut(_) => answered(noted, profile, Answer::Nack(0)),
+    }
+}
+
+// Whether the request is one about a profile.
+fn names(request: Request) -> bool
+    ensures { λ r. ⌜ r ≡ names request ⌝ }
+{
+    match request {
+        Request::Hello => false,
+        Request::KeepAlive => false,
+        Request::Ask(_, _) => true,
+        Request::Release(_) => true,
+        Request::Keep(_) => true,
+    }
+}
+
+// Whether a message comes to a rule about the profile that it names: any other leaves every profile as it is, or is a hello.
+pub fn looks(member: Member, number: u32, request: Request) -> bool
+    ensures { λ r. ⌜ r ≡ looks number request member ⌝ }
+{
+    if member.last >= number {
+        return false;
+    }
+    let status = member.status;
+    match status {
+        Status::Unknown => false,
+        Status::Live => names(request),
+        Status::TimingOut(_) => false,
+    }
+}
+
+// Whether the request is an ask: no other needs to know who is live.
+pub fn asks(request: Request) -> bool
+    ensures { λ r. ⌜ r ≡ asks request ⌝ }
+{
+    match request {
+        Request::Hello => false,
+        Request::KeepAlive => false,
+        Request::Ask(_, _) => true,
+        Request::Release(_) => false,
+        Request::Keep(_) => false,
     }
 }

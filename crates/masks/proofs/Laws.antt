@@ -1,18 +1,19 @@
 -- Masks: a mask fits as many bits as its set has places, its ones are those in the set, and bit by bit it is the set.
 -- Assumes nothing.
 use mathlib.Core.Path.{_≡_, refl, sym, ap, _∙_}
-use mathlib.Core.Bool.{Bool, true, false, _&&_, _||_}
+use mathlib.Core.Bool.{Bool, true, false, cond, _&&_, _||_}
 use mathlib.Core.List.{List, [], _∷_}
-use Prim.Native.Nat.{ℕ, suc, _+_, _-_, _*_, _/_, _%_, _^_, _<_, _≤_, min, max}
-use native.Mathlib.Nat.{pow-suc}
+use Prim.Native.Nat.{ℕ, zero, suc, _+_, _-_, _*_, _/_, _%_, _^_, _<_, _≤_, min, max}
+use native.Mathlib.Nat.{pow-suc, max-zero}
 use native.Mathlib.Omega.{arith}
 use lib.Dec.{eqb, lit<}
+use borrow.Author.Tests.{eqb-true, eqb-false}
 use lib.Bits.{bitAnd, bitOr, and-step, or-step, and-zero-l, and-zero-r, or-zero-l, or-zero-r}
 use lib.Pow.{pow-mono}
-use lib.Count.{ones, onesIn, ones-step}
-use lib.ListN.{length, getD, drop, length-drop, drop-of-length-le}
+use lib.Count.{ones, onesIn, ones-step, trailingZeros}
+use lib.ListN.{length, getD, drop, replicate, length-drop, drop-of-length-le}
 use lib.Seq.{drop-cons}
-use Rattle.masks.specs.Mask.{Set, bitOf, mask, count, any, both, either, thoseAt, those, changeIn, changeUnder}
+use Rattle.masks.specs.Mask.{Set, bitOf, mask, count, any, both, either, setOf, thoseAt, those, changeIn, changeUnder, someUnder}
 
 pub bit-small : (b : Bool) → bitOf b < 2
 bit-small true = lit< tt
@@ -72,11 +73,53 @@ mask-both (a ∷ s) [] = and-zero-r (mask (a ∷ s))
 mask-both (a ∷ s) (b ∷ t) =
     and-step (mask s * 2 + bitOf a) (mask t * 2 + bitOf b) ∙ rw (half a s, half b t, odd a s, odd b t, mask-both s t, low a b)
 
+-- the set that a mask stands for, and those of a set that are under any number
+pub set-mask : (s : Set) → setOf (length s) (mask s) ≡ s
+set-mask [] = refl
+set-mask (b ∷ s) = rw (odd-test b s, half b s, set-mask s)
+
+low-bit : (w : ℕ) → w % 2 ≡ bitOf (eqb (w % 2) 1)
+low-bit w = by-test (eqb (w % 2) 1) refl
+  where
+    by-test : (b : Bool) → eqb (w % 2) 1 ≡ b → w % 2 ≡ bitOf b
+    by-test true e = eqb-true (w % 2) 1 e
+    by-test false e = omega (arith, eqb-false (w % 2) 1 e)
+
+pub mask-under : (s : Set) (w : ℕ) → bitAnd (mask s) w ≡ mask (both s (setOf (length s) w))
+mask-under [] w = and-zero-l w
+mask-under (a ∷ s) w =
+    and-step (mask s * 2 + bitOf a) w ∙ rw (half a s, odd a s, mask-under s (w / 2), lower)
+  where
+    lower : min (bitOf a) (w % 2) ≡ bitOf (a && eqb (w % 2) 1)
+    lower = ap (λ (n : ℕ). min (bitOf a) n) (low-bit w) ∙ low a (eqb (w % 2) 1)
+
 pub mask-either : (s t : Set) → bitOr (mask s) (mask t) ≡ mask (either s t)
 mask-either [] t = or-zero-l (mask t)
 mask-either (a ∷ s) [] = or-zero-r (mask (a ∷ s))
 mask-either (a ∷ s) (b ∷ t) =
     or-step (mask s * 2 + bitOf a) (mask t * 2 + bitOf b) ∙ rw (half a s, half b t, odd a s, odd b t, mask-either s t, high a b)
+
+-- with place k taken in, the first is looked for up to k: it is at k where none before is in the set
+pub first-up-to : (k j n : ℕ) → k < j → trailingZeros j (bitOr n (2 ^ k)) ≡ trailingZeros k n
+unfolding trailingZeros
+first-up-to k zero n h = absurd (omega arith)
+first-up-to zero (suc j) n h = rw lowest
+  where
+    lowest : bitOr n 1 % 2 ≡ 1
+    lowest = omega (arith, or-step n 1)
+first-up-to (suc k) (suc j) n h = rw (rest, lowest, first-up-to k j (n / 2) (omega arith))
+  where
+    digits : bitOr n (2 ^ suc k) ≡ bitOr (n / 2) (2 ^ k) * 2 + n % 2
+    digits =
+        let p : 2 ^ suc k / 2 ≡ 2 ^ k = omega (arith, pow-suc 2 k) in
+        let q : 2 ^ suc k % 2 ≡ 0 = omega (arith, pow-suc 2 k) in
+        or-step n (2 ^ suc k) ∙ rw (p, q, max-zero)
+
+    rest : bitOr n (2 ^ suc k) / 2 ≡ bitOr (n / 2) (2 ^ k)
+    rest = omega (arith, digits)
+
+    lowest : bitOr n (2 ^ suc k) % 2 ≡ n % 2
+    lowest = omega (arith, digits)
 
 module _ {A : Type 0} where
   step-at : (f : ℕ → A → Bool) (d : A) (xs : List A) (k j : ℕ) → j < length xs
@@ -127,3 +170,30 @@ module _ {A : Type 0} where
   under-in f [] (x ∷ xs) = ap (λ (l : List A). x ∷ l) (under-in f [] xs)
   under-in f (b ∷ s) [] = refl
   under-in f (b ∷ s) (x ∷ xs) = rw (odd-test b s, half b s, under-in f s xs)
+
+  -- where nobody under the mask passes the test, a change of those who pass it leaves all as they are
+  pub none-under : (test : A → Bool) (f : A → A) → ((x : A) → test x ≡ false → f x ≡ x) → (w : ℕ) (xs : List A)
+      → someUnder test w xs ≡ false → changeUnder f w xs ≡ xs
+  none-under test f same w [] e = refl
+  none-under test f same w (x ∷ xs) e =
+      by-test (eqb (w % 2) 1) (test x) (someUnder test (w / 2) xs) refl e (none-under test f same (w / 2) xs)
+    where
+      by-test : (b t s : Bool) → test x ≡ t → ((b && t) || s) ≡ false → (s ≡ false → changeUnder f (w / 2) xs ≡ xs)
+          → (cond b (f x) x ∷ changeUnder f (w / 2) xs) ≡ (x ∷ xs)
+      by-test true true s d h rest = let z : _≡_ {A = ℕ} 0 1 = cc in absurd (omega arith)
+      by-test true false s d h rest = rw (same x d, rest h)
+      by-test false t s d h rest = ap (λ (l : List A). x ∷ l) (rest h)
+
+  -- where nobody under the mask of all passes the test, nobody passes one that passes no more
+  pub none-of : (test g : A → Bool) → ((x : A) → test x ≡ false → g x ≡ false) → (n : ℕ) (xs : List A) → length xs ≤ n
+      → someUnder test (mask (replicate n true)) xs ≡ false → mask (those g xs) ≡ 0
+  none-of test g out n [] l e = refl
+  none-of test g out zero (x ∷ xs) l e = absurd (omega arith)
+  none-of test g out (suc n) (x ∷ xs) l e =
+      let h = rw (odd-test true (replicate n true), half true (replicate n true)) at e in
+      by-test (test x) (someUnder test (mask (replicate n true)) xs) refl h (none-of test g out n xs (omega arith))
+    where
+      by-test : (t s : Bool) → test x ≡ t → (t || s) ≡ false → (s ≡ false → mask (those g xs) ≡ 0)
+          → mask (those g xs) * 2 + bitOf (g x) ≡ 0
+      by-test true s d h rest = let z : _≡_ {A = ℕ} 0 1 = cc in absurd (omega arith)
+      by-test false s d h rest = rw (out x d, rest h)

@@ -1,7 +1,7 @@
 -- A set of stations, or of profiles: whether each is in it, in their order. Its mask has the first as the lowest bit.
 use mathlib.Core.Bool.{Bool, true, false, cond, _&&_, _||_}
 use mathlib.Core.List.{List, [], _∷_}
-use Prim.Native.Nat.{ℕ, suc, _+_, _*_, _/_, _%_}
+use Prim.Native.Nat.{ℕ, zero, suc, _+_, _*_, _/_, _%_}
 use lib.Dec.{eqb}
 
 abbrev pub Set : Type 0
@@ -35,6 +35,11 @@ either [] t = t
 either (a ∷ s) [] = a ∷ s
 either (a ∷ s) (b ∷ t) = (a || b) ∷ either s t
 
+-- the set of n that a number stands for, whatever number it is: a mask's own set is proved to be the one it came from
+abbrev pub setOf : ℕ → ℕ → Set
+setOf zero w = []
+setOf (suc n) w = eqb (w % 2) 1 ∷ setOf n (w / 2)
+
 module _ {A : Type 0} where
   -- those whose element, with its place, passes the test; the first has the place k
   abbrev pub thoseAt : (ℕ → A → Bool) → ℕ → List A → Set
@@ -56,6 +61,11 @@ module _ {A : Type 0} where
   abbrev pub changeUnder : (A → A) → ℕ → List A → List A
   changeUnder f w [] = []
   changeUnder f w (x ∷ xs) = cond (eqb (w % 2) 1) (f x) x ∷ changeUnder f (w / 2) xs
+
+  -- whether an element under the mask passes the test
+  abbrev pub someUnder : (A → Bool) → ℕ → List A → Bool
+  someUnder f w [] = false
+  someUnder f w (x ∷ xs) = (eqb (w % 2) 1 && f x) || someUnder f (w / 2) xs
 
   -- one element, by the lowest bit
   abbrev pub lowest : (A → A) → ℕ → A → A

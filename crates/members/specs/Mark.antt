@@ -1,7 +1,8 @@
 -- The mark of a station on a profile, and what an event does to it.
-use mathlib.Core.Bool.{Bool, true, false}
+use mathlib.Core.Bool.{Bool, true, false, cond, not, _&&_}
 use mathlib.Core.List.{List}
-use Prim.Native.Nat.{ℕ}
+use Prim.Native.Nat.{ℕ, _%_}
+use lib.Dec.{eqb}
 use Rattle.masks.specs.Mask.{Set, those, changeIn}
 use Rattle.timing.specs.Reading.{passed}
 pub use Rattle.members.specs.declared.mark.Mark.{Mark}
@@ -12,9 +13,32 @@ use Rattle.members.specs.declared.mark.Which.the-variants as which
 use Rattle.members.specs.declared.mark.Change.{Change}
 use Rattle.members.specs.declared.mark.Change.the-variants.{Wipe, DropKept, Demand, Keep}
 
+-- the two highest numbers of 64 bits, which no reading is
+abbrev pub noneWord : ℕ
+noneWord = 18446744073709551615
+
+abbrev pub keptWord : ℕ
+keptWord = 18446744073709551614
+
+-- a mark as it is stored, and back: the reading since which it is demanded stands for itself
+abbrev pub asWord : Mark → Marked
+asWord Unmarked = record { word = noneWord }
+asWord (Demanded since) = record { word = since }
+asWord Kept = record { word = keptWord }
+
+abbrev pub asMark : Marked → Mark
+asMark m = cond (eqb (m .word) noneWord) Unmarked (cond (eqb (m .word) keptWord) Kept (Demanded (m .word)))
+
 -- "a mark: none"
 abbrev pub noMark : Marked
-noMark = record { mark = Unmarked }
+noMark = asWord Unmarked
+
+abbrev pub isMarked : Marked → Bool
+isMarked m = not (eqb (m .word) noneWord)
+
+-- under the lowest bit
+abbrev pub markedTest : ℕ → Marked → Bool
+markedTest w m = eqb (w % 2) 1 && isMarked m
 
 abbrev pub isKept : Mark → Bool
 isKept Unmarked = false
@@ -28,7 +52,7 @@ isLate answer now (Demanded since) = passed since answer now
 isLate answer now Kept = false
 
 abbrev pub marksWith : (Mark → Bool) → List Marked → Set
-marksWith test marks = those (λ (m : Marked). test (m .mark)) marks
+marksWith test marks = those (λ (m : Marked). test (asMark m)) marks
 
 -- what an event does to a mark
 abbrev pub wipeMark : Mark → Mark
@@ -52,7 +76,7 @@ keepMark (Demanded since) = Kept
 keepMark Kept = Kept
 
 abbrev pub remark : (Mark → Mark) → Marked → Marked
-remark f m = record { mark = f (m .mark) }
+remark f m = asWord (f (asMark m))
 
 abbrev pub marksChanged : (Mark → Mark) → Set → List Marked → List Marked
 marksChanged f stations marks = changeIn (remark f) stations marks

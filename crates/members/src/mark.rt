@@ -2,8 +2,8 @@
 use timing::reading::Reading;
 use timing::settings::Settings;
 ghost use mathlib.Core.Path.{_≡_};
-ghost use Rattle.masks.specs.Mask.{mask, changeUnder, lowest};
-ghost use Rattle.members.specs.Mark.{marksWith, remark, markTest, markChange};
+ghost use Rattle.masks.specs.Mask.{mask, changeUnder, someUnder, lowest};
+ghost use Rattle.members.specs.Mark.{asWord, asMark, isMarked, markedTest, marksWith, remark, markTest, markChange};
 
 pub enum Mark {
     Unmarked,
@@ -14,9 +14,38 @@ pub enum Mark {
 // The set of all stations.
 pub const EVERYONE: u64 = 65_535;
 
-// An element of an array of marks.
+// A mark as it is stored, an element of an array of marks: the reading since which the mode is demanded, or one of the
+// two highest numbers, which no reading is. So a mark takes eight bytes, and each number is one mark.
 pub struct Marked {
-    pub mark: Mark,
+    word: u64,
+}
+
+impl Marked {
+    pub const NONE: u64 = 18_446_744_073_709_551_615;
+
+    pub const KEPT: u64 = 18_446_744_073_709_551_614;
+
+    pub fn of(mark: Mark) -> Marked
+        ensures { λ r. ⌜ r ≡ asWord mark ⌝ }
+    {
+        match mark {
+            Mark::Unmarked => Marked { word: Marked::NONE },
+            Mark::Demanded(since) => Marked { word: since },
+            Mark::Kept => Marked { word: Marked::KEPT },
+        }
+    }
+
+    fn mark(self) -> Mark
+        ensures { λ r. ⌜ r ≡ asMark self ⌝ }
+    {
+        if self.word == Marked::NONE {
+            return Mark::Unmarked;
+        }
+        if self.word == Marked::KEPT {
+            return Mark::Kept;
+        }
+        Mark::Demanded(self.word)
+    }
 }
 
 // What an event does to a mark.
@@ -54,10 +83,7 @@ fn changed_if(marked: Marked, w: u64, change: Change) -> Marked
     ensures { λ r. ⌜ r ≡ lowest (remark (markChange change)) w marked ⌝ }
 {
     if w % 2 == 1 {
-        let mark = marked.mark;
-        return Marked {
-            mark: changed(mark, change),
-        };
+        return Marked::of(changed(marked.mark(), change));
     }
     marked
 }
@@ -80,6 +106,34 @@ pub fn change_in(
         i += 1;
     }
     next
+}
+
+// Whether a mark under the lowest bit is there.
+fn there(marked: Marked, w: u64) -> bool
+    ensures { λ r. ⌜ r ≡ markedTest w marked ⌝ }
+{
+    if w % 2 == 1 {
+        return marked.word != Marked::NONE;
+    }
+    false
+}
+
+// Whether a station of the set has a mark.
+pub fn some_in(marks: [Marked; Settings::STATIONS], set: u64) -> bool
+    ensures { λ r. ⌜ r ≡ someUnder isMarked set marks ⌝ }
+{
+    // Most sets are of one station: those before it and behind it are passed over.
+    let first = masks::first(set);
+    let mut some = false;
+    let mut w = set >> first;
+    let mut i: usize = first;
+    while i < Settings::STATIONS && 0 < w {
+        let marked = marks[i];
+        some = some | there(marked, w);
+        w = w / 2;
+        i += 1;
+    }
+    some
 }
 
 // Which marks are asked for: the kept ones, or those demanded for `answer` or more ticks at the reading `now`.
@@ -113,8 +167,7 @@ pub fn marks_in(marks: [Marked; Settings::STATIONS], which: Which) -> u64
     while 0 < i {
         i -= 1;
         let marked = marks[i];
-        let mark = marked.mark;
-        mask = mask * 2 + masks::bit(is_one(mark, which));
+        mask = mask * 2 + masks::bit(is_one(marked.mark(), which));
     }
     mask
 }

@@ -2,8 +2,8 @@
 use timing::reading::Reading;
 use timing::settings::Settings;
 ghost use mathlib.Core.Path.{_≡_};
-ghost use Rattle.masks.specs.Mask.{mask, changeUnder, lowest};
-ghost use Rattle.members.specs.Member.{membersWith, restatus, statusTest};
+ghost use Rattle.masks.specs.Mask.{lowest};
+ghost use Rattle.members.specs.Member.{restatus, statusTest};
 
 pub enum Status {
     Unknown,
@@ -26,9 +26,10 @@ pub enum Which {
     Waited { now: u64, wait: u64 },
 }
 
-fn is_one(status: Status, which: Which) -> bool
-    ensures { λ r. ⌜ r ≡ statusTest which status ⌝ }
+pub fn is_one(member: Member, which: Which) -> bool
+    ensures { λ r. ⌜ r ≡ statusTest which (member .status) ⌝ }
 {
+    let status = member.status;
     match which {
         Which::Live => match status {
             Status::Unknown => false,
@@ -43,21 +44,8 @@ fn is_one(status: Status, which: Which) -> bool
     }
 }
 
-pub fn members_in(members: Members, which: Which) -> u64
-    ensures { λ r. ⌜ r ≡ mask (membersWith (statusTest which) members) ⌝ }
-{
-    let mut mask: u64 = 0;
-    let mut i: usize = Settings::STATIONS;
-    while 0 < i {
-        i -= 1;
-        let member = members[i];
-        let status = member.status;
-        mask = mask * 2 + masks::bit(is_one(status, which));
-    }
-    mask
-}
-
-fn turned(member: Member, w: u64, status: Status) -> Member
+// A new status, under the lowest bit.
+pub fn turned(member: Member, w: u64, status: Status) -> Member
     ensures { λ r. ⌜ r ≡ lowest (restatus status) w member ⌝ }
 {
     if w % 2 == 1 {
@@ -67,20 +55,4 @@ fn turned(member: Member, w: u64, status: Status) -> Member
         };
     }
     member
-}
-
-// The stations of a set get a new status.
-pub fn turn_in(members: Members, set: u64, status: Status) -> Members
-    ensures { λ r. ⌜ r ≡ changeUnder (restatus status) set members ⌝ }
-{
-    let mut next = members;
-    let mut w = set;
-    let mut i: usize = 0;
-    while i < Settings::STATIONS {
-        let member = next[i];
-        next[i] = turned(member, w, status);
-        w = w / 2;
-        i += 1;
-    }
-    next
 }

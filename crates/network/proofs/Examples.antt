@@ -15,7 +15,7 @@ use Rattle.profiles.specs.Sets.{wiped, conflicts}
 use Rattle.profiles.specs.Ask.{askRule}
 use Rattle.hearing.specs.Hear as hear
 use Rattle.server.specs.Tick as tick
-use Rattle.server.specs.Refusal as server-refusal
+use Rattle.judging.specs.Refusal as server-refusal
 use Rattle.server.specs.Step as server
 use Rattle.server.specs.Border as server-border
 use Rattle.server.specs.Border.{sentFor}

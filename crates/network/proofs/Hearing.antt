@@ -20,12 +20,12 @@ use Rattle.server.specs.declared.server.Server.{Server}
 use Rattle.server.specs.declared.server.Served.{Served}
 use Rattle.requests.specs.declared.Request.{Request}
 use Rattle.requests.specs.declared.Request.the-variants.{Hello, KeepAlive, Ask, Release, Keep}
-use Rattle.server.specs.declared.event.Event.{Event}
-use Rattle.server.specs.declared.event.Event.the-variants.{Message as Said, Tick}
+use Rattle.judging.specs.declared.event.Event.{Event}
+use Rattle.judging.specs.declared.event.Event.the-variants.{Message as Said, Tick}
 use Rattle.profiles.specs.declared.answer.Answer.{Answer}
 use Rattle.profiles.specs.declared.answer.Answer.the-variants.{Done, Granted}
 use Rattle.server.specs.State.{statusOf, lastOf, modeOf}
-use Rattle.server.specs.Refusal.{refusal}
+use Rattle.judging.specs.Refusal.{refusal}
 use Rattle.requests.specs.Request.{askedAs, requestOf}
 use Rattle.server.specs.Step.{step}
 use Rattle.server.specs.declared.border.Meant.the-variants.{For}

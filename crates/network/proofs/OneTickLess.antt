@@ -24,15 +24,16 @@ use Rattle.members.specs.declared.member.Status.{Status}
 use Rattle.members.specs.declared.member.Status.the-variants.{Unknown, Live, TimingOut}
 use Rattle.members.specs.declared.mark.Mark.{Mark}
 use Rattle.members.specs.declared.mark.Mark.the-variants.{Unmarked, Demanded}
-use Rattle.server.specs.declared.event.Event.the-variants as server
+use Rattle.judging.specs.declared.event.Event.the-variants as server
 use Rattle.profiles.specs.declared.answer.Answer.{Answer as ServerAnswer}
 use Rattle.profiles.specs.declared.answer.Answer.the-variants as says
 use Rattle.server.specs.State.{nobody, noMark, emptyProfile, newServer}
+use Rattle.members.specs.Mark.{asWord}
 use Rattle.profiles.specs.Sets.{wiped, conflicts}
 use Rattle.profiles.specs.Ask.{askRule}
 use Rattle.hearing.specs.Hear.{heed, welcome, byStatus}
 use Rattle.server.specs.Tick.{free, startedSet, start}
-use Rattle.server.specs.Refusal.{eventRefusal}
+use Rattle.judging.specs.Refusal.{eventRefusal}
 use Rattle.server.specs.Step.{tick, step as serverStep}
 use Rattle.server.specs.Border.{sentFor}
 use Rattle.server.proofs.Sent.{heard-back}
@@ -88,7 +89,7 @@ module _ (z : Settings) (good : inRange z ≡ true) (two : 2 ≤ z .stations) (w
         reading = c;
         members = record { status = σ₀; last = k₀ } ∷ record { status = σ₁; last = k₁ } ∷ replicate 14 nobody;
         profiles =
-            record { row = mode x₀ ∷ mode x₁ ∷ replicate 14 (mode 0); marks = record { mark = m } ∷ noMark ∷ replicate 14 noMark }
+            record { row = mode x₀ ∷ mode x₁ ∷ replicate 14 (mode 0); marks = asWord m ∷ noMark ∷ replicate 14 noMark }
             ∷ replicate 63 emptyProfile;
       }
 

@@ -8,13 +8,13 @@ use Rattle.timing.specs.Limits.{readingLimit}
 use Rattle.timing.specs.declared.settings.Settings.{Settings}
 use Rattle.timing.specs.Settings.{inRange}
 use Rattle.server.specs.declared.server.Server.{Server}
-use Rattle.server.specs.declared.event.Event.{Event}
-use Rattle.server.specs.declared.event.Event.the-variants.{Message, Tick}
+use Rattle.judging.specs.declared.event.Event.{Event}
+use Rattle.judging.specs.declared.event.Event.the-variants.{Message, Tick}
 use Rattle.requests.specs.declared.Request.{Request}
 use Rattle.server.specs.State.{memberAt, profileAt, lastOf, statusOf}
 use Rattle.profiles.specs.Sets.{liveSet}
 use Rattle.hearing.specs.Hear.{byStatus, numbered}
-use Rattle.server.specs.Refusal.{eventRefusal, refusal}
+use Rattle.judging.specs.Refusal.{eventRefusal, refusal}
 use Rattle.requests.specs.Request.{profileOf}
 use Rattle.server.specs.Step.{afterHeard, tick, ifGood, step}
 use Rattle.server.proofs.Heard.{judged}

@@ -11,8 +11,8 @@ use Rattle.record.specs.declared.message.Message.{Message}
 use Rattle.timing.specs.declared.settings.Settings.{Settings}
 use Rattle.server.specs.declared.server.Server.{Server}
 use Rattle.server.specs.declared.server.Served.{Served}
-use Rattle.server.specs.declared.event.Event.{Event as ServerEvent}
-use Rattle.server.specs.declared.event.Event.the-variants as server
+use Rattle.judging.specs.declared.event.Event.{Event as ServerEvent}
+use Rattle.judging.specs.declared.event.Event.the-variants as server
 use Rattle.server.specs.declared.border.Meant.{Meant as ToServer}
 use Rattle.server.specs.declared.border.Meant.the-variants as to-server
 use Rattle.server.specs.Step.{step as serverStep}

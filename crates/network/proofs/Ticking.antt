@@ -13,10 +13,10 @@ use Rattle.members.specs.declared.member.Status.{Status}
 use Rattle.members.specs.declared.member.Status.the-variants.{Unknown, Live, TimingOut}
 use Rattle.server.specs.declared.server.Server.{Server}
 use Rattle.server.specs.declared.server.Served.{Served}
-use Rattle.server.specs.declared.event.Event.the-variants.{Tick}
+use Rattle.judging.specs.declared.event.Event.the-variants.{Tick}
 use Rattle.server.specs.State.{statusOf, modeOf}
 use Rattle.profiles.specs.Sets.{isWaited}
-use Rattle.server.specs.Refusal.{refusal}
+use Rattle.judging.specs.Refusal.{refusal}
 use Rattle.server.specs.Step.{step}
 use Rattle.server.proofs.Serves.{Accepted}
 use Rattle.server.proofs.Events.{refused}

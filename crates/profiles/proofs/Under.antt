@@ -1,7 +1,7 @@
 -- The code's helpers answer what the rules say.
 -- Assumes nothing.
 use mathlib.Core.Path.{_≡_, refl, sym, ap, _∙_, fun-ext}
-use mathlib.Core.Bool.{false}
+use mathlib.Core.Bool.{Bool, true, false, _||_}
 use mathlib.Core.List.{List, [], _∷_, map}
 use Prim.Native.Nat.{ℕ, zero, suc, _-_, _^_, _<_, _≤_}
 use native.Mathlib.Nat.{not-suc-le-zero, le-of-suc-le-suc, pow-suc}
@@ -9,11 +9,17 @@ use native.Mathlib.Omega.{arith}
 use lib.Bits.{bitOr}
 use lib.ListN.{length, getD, drop, replicate, drop-of-length-le}
 use lib.Seq.{drop-cons}
-use Rattle.masks.specs.Mask.{Set, mask, either}
-use Rattle.masks.proofs.Laws.{under-in, mask-either}
+use lib.Dec.{eqb}
+use borrow.Author.Tests.{eqb-true, not-false}
+use Rattle.masks.specs.Mask.{Set, mask, either, someUnder}
+use Rattle.masks.proofs.Laws.{under-in, mask-either, none-under}
+use Rattle.modes.specs.declared.Mode.{Mode}
+use Rattle.members.specs.declared.mark.Marked.{Marked}
+use Rattle.members.specs.Mark.{isMarked}
+use Rattle.members.proofs.Words.{unmarked-word}
 use Rattle.profiles.specs.Profile.{Profile, noProfile}
 use Rattle.profiles.specs.Sets.{isLate, marksWith, lateSet, only, onlyOf, wiped, wipeMark, keepMark, remark, noMode, marksChanged}
-use Rattle.profiles.specs.Under.{wipedUnder, keptUnder}
+use Rattle.profiles.specs.Under.{isHeld, wipedUnder, keptUnder, touchedUnder}
 use Rattle.profiles.specs.Ask.{withMarks}
 
 -- a profile wiped, or its marks kept, by a set's mask
@@ -34,6 +40,22 @@ nobody-wiped x = wiped-under [] x
 pub none-wiped : (xs : List Profile) → xs ≡ map (wipedUnder 0) xs
 none-wiped [] = refl
 none-wiped (x ∷ xs) = λ i. sym (nobody-wiped x) i ∷ none-wiped xs i
+
+-- wiping stations that have neither a mode nor a mark
+pub touched-wiped : (w : ℕ) (x : Profile) → touchedUnder w x ≡ false → wipedUnder w x ≡ x
+unfolding touchedUnder wipedUnder
+touched-wiped w x e = by-tests (someUnder isHeld w (x .row)) (someUnder isMarked w (x .marks)) refl refl e
+  where
+    unheld : (m : Mode) → isHeld m ≡ false → noMode m ≡ m
+    unheld m e = λ i. record { 0 = sym (eqb-true (m .0) 0 (not-false (eqb (m .0) 0) e)) i }
+
+    unmarked : (m : Marked) → isMarked m ≡ false → remark wipeMark m ≡ m
+    unmarked m e = sym (unmarked-word m e)
+
+    by-tests : (a b : Bool) → someUnder isHeld w (x .row) ≡ a → someUnder isMarked w (x .marks) ≡ b → (a || b) ≡ false → wipedUnder w x ≡ x
+    by-tests true b p q e = let z : _≡_ {A = ℕ} 0 1 = cc in absurd (omega arith)
+    by-tests false b p q e =
+        λ i. record { row = none-under isHeld noMode unheld w (x .row) p i; marks = none-under isMarked (remark wipeMark) unmarked w (x .marks) (q ∙ e) i }
 
 pub kept-under : (s : Set) (x : Profile) → keptUnder (mask s) x ≡ withMarks x (marksChanged keepMark s (x .marks))
 unfolding keptUnder

@@ -5,7 +5,7 @@ use lib.ListN.{getD, replicate}
 use Rattle.modes.specs.Modes.{mode}
 use Rattle.timing.specs.Limits.{mostStations}
 use Rattle.members.specs.declared.mark.Mark.{Mark}
-use Rattle.members.specs.Mark.{noMark}
+use Rattle.members.specs.Mark.{noMark, asMark}
 pub use Rattle.profiles.specs.declared.profile.Profile.{Profile}
 
 abbrev pub emptyProfile : Profile
@@ -20,4 +20,4 @@ abbrev pub modeIn : Profile → ℕ → ℕ
 modeIn x i = getD (x .row) i (mode 0) .0
 
 abbrev pub markIn : Profile → ℕ → Mark
-markIn x i = getD (x .marks) i noMark .mark
+markIn x i = asMark (getD (x .marks) i noMark)

@@ -6,11 +6,10 @@ use members::mark;
 use members::mark::Change;
 use members::mark::EVERYONE;
 use members::mark::Which;
-use members::member;
-use members::member::Members;
 use modes::Mode;
 ghost use mathlib.Core.Path.{_≡_};
-ghost use Rattle.profiles.specs.Sets.{liveSet};
+ghost use Rattle.masks.specs.Mask.{setOf};
+ghost use Rattle.timing.specs.Limits.{mostStations};
 ghost use Rattle.profiles.specs.Ask.{askRule};
 ghost use Rattle.profiles.specs.Said.{said};
 
@@ -19,16 +18,9 @@ pub struct Ruled {
     pub answer: Answer,
 }
 
-// `number` is the profile's; `members` tell which stations are live.
-pub fn ask(
-    profile: Profile,
-    number: u8,
-    members: Members,
-    me: usize,
-    asked: Mode,
-    now: u64,
-) -> Ruled
-    ensures { λ r. ⌜ (r .profile ≡ askRule (liveSet members) number now me (asked .0) profile .profile) × (said (r .answer) ≡ said (askRule (liveSet members) number now me (asked .0) profile .answer)) ⌝ }
+// `number` is the profile's; `live` is the set of the live stations.
+pub fn ask(profile: Profile, number: u8, live: u64, me: usize, asked: Mode, now: u64) -> Ruled
+    ensures { λ r. ⌜ (r .profile ≡ askRule (setOf mostStations live) number now me (asked .0) profile .profile) × (said (r .answer) ≡ said (askRule (setOf mostStations live) number now me (asked .0) profile .answer)) ⌝ }
 {
     let modes = profile.row;
     let marks = profile.marks;
@@ -49,7 +41,7 @@ pub fn ask(
             answer: Answer::InUse(number),
         };
     }
-    let demanded = conflicts & member::members_in(members, member::Which::Live);
+    let demanded = conflicts & live;
     let marks = mark::change_in(marks, demanded, Change::Demand(now));
     Ruled {
         profile: Profile { row: modes, marks },

@@ -2,17 +2,17 @@
 use crate::row;
 use members::mark;
 use members::mark::Change;
+use members::mark::EVERYONE;
 use members::mark::Mark;
 use members::mark::Marked;
 use members::mark::Which;
 use modes::Mode;
 use timing::settings::Settings;
 ghost use mathlib.Core.Path.{_≡_};
-ghost use mathlib.Core.List.{map};
 ghost use Rattle.masks.specs.Mask.{mask};
 ghost use Rattle.profiles.specs.Profile.{emptyProfile};
-ghost use Rattle.profiles.specs.Sets.{lateSet};
-ghost use Rattle.profiles.specs.Under.{wipedUnder, keptUnder};
+ghost use Rattle.profiles.specs.Sets.{isLate, marksWith};
+ghost use Rattle.profiles.specs.Under.{wipedUnder, keptUnder, touchedUnder};
 
 pub struct Profile {
     pub(crate) row: [Mode; Settings::STATIONS],
@@ -23,9 +23,7 @@ impl Profile {
     pub fn empty() -> Profile
         ensures { λ r. ⌜ r ≡ emptyProfile ⌝ }
     {
-        let none = Marked {
-            mark: Mark::Unmarked,
-        };
+        let none = Marked::of(Mark::Unmarked);
         Profile {
             row: [Mode::NONE; Settings::STATIONS],
             marks: [none; Settings::STATIONS],
@@ -54,36 +52,28 @@ impl Profile {
             marks: mark::change_in(marks, set, Change::Keep),
         }
     }
-}
 
-pub fn wipe_all(profiles: [Profile; Settings::PROFILES], set: u64) -> [Profile; Settings::PROFILES]
-    ensures { λ r. ⌜ r ≡ map (wipedUnder set) profiles ⌝ }
-{
-    // Most events wipe nobody.
-    if set == 0 {
-        return profiles;
+    // Whether a station of the set has a mode or a mark, so that wiping it changes something.
+    pub fn touched(self, set: u64) -> bool
+        ensures { λ r. ⌜ r ≡ touchedUnder set self ⌝ }
+    {
+        let modes = self.row;
+        let marks = self.marks;
+        if row::some_in(modes, set) {
+            return true;
+        }
+        mark::some_in(marks, set)
     }
-    let mut next = profiles;
-    let mut i: usize = 0;
-    while i < Settings::PROFILES {
-        let profile = next[i];
-        next[i] = profile.wiped(set);
-        i += 1;
-    }
-    next
-}
 
-// The stations with a mark demanded for `answer` or more ticks on any profile.
-pub fn late(profiles: [Profile; Settings::PROFILES], now: u64, answer: u64) -> u64
-    ensures { λ r. ⌜ r ≡ mask (lateSet answer now profiles) ⌝ }
-{
-    let mut mask: u64 = 0;
-    let mut i: usize = Settings::PROFILES;
-    while 0 < i {
-        i -= 1;
-        let profile = profiles[i];
-        let marks = profile.marks;
-        mask = mark::marks_in(marks, Which::Late { now, answer }) | mask;
+    // The stations with a mark demanded for `answer` or more ticks.
+    pub fn late(self, now: u64, answer: u64) -> u64
+        ensures { λ r. ⌜ r ≡ mask (marksWith (isLate answer now) (self .marks)) ⌝ }
+    {
+        let marks = self.marks;
+        // Most profiles have no marks.
+        if mark::some_in(marks, EVERYONE) {
+            return mark::marks_in(marks, Which::Late { now, answer });
+        }
+        0
     }
-    mask
 }

@@ -3,9 +3,10 @@ use modes::Mode;
 use timing::settings::Settings;
 ghost use mathlib.Core.Path.{_≡_};
 ghost use lib.ListN.{getD, set};
-ghost use Rattle.masks.specs.Mask.{mask, changeUnder, lowest};
+ghost use Rattle.masks.specs.Mask.{mask, changeUnder, someUnder, lowest};
 ghost use Rattle.modes.specs.Modes.{mode};
 ghost use Rattle.profiles.specs.Sets.{clashes, conflicts, noMode};
+ghost use Rattle.profiles.specs.Under.{isHeld, heldTest};
 
 // Whether station `j`, which holds `held`, is another than `me` and stands in the way of `wanted`.
 fn clash(me: usize, wanted: Mode, j: usize, held: Mode) -> bool
@@ -75,4 +76,31 @@ pub(crate) fn wiped(row: [Mode; Settings::STATIONS], stations: u64) -> [Mode; Se
         i += 1;
     }
     next
+}
+
+// Whether a mode under the lowest bit is held.
+fn is_held(held: Mode, w: u64) -> bool
+    ensures { λ r. ⌜ r ≡ heldTest w held ⌝ }
+{
+    if w % 2 == 1 {
+        return held.0 != 0;
+    }
+    false
+}
+
+// Whether a station of the set holds a mode.
+pub(crate) fn some_in(row: [Mode; Settings::STATIONS], stations: u64) -> bool
+    ensures { λ r. ⌜ r ≡ someUnder isHeld stations row ⌝ }
+{
+    // Most sets are of one station: those before it and behind it are passed over.
+    let first = masks::first(stations);
+    let mut some = false;
+    let mut w = stations >> first;
+    let mut i: usize = first;
+    while i < Settings::STATIONS && 0 < w {
+        some = some | is_held(row[i], w);
+        w = w / 2;
+        i += 1;
+    }
+    some
 }

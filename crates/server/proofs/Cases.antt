@@ -10,7 +10,7 @@ use Rattle.masks.specs.Mask.{any}
 use Rattle.modes.specs.declared.Mode.{Mode}
 use Rattle.server.specs.State.{Status, Unknown, Live, TimingOut, Server, statusOf, lastOf}
 use Rattle.server.specs.Event.{Request, Hello, KeepAlive, Ask, Release, Keep, Event, Message, Tick}
-use Rattle.server.specs.Refusal.{refusal}
+use Rattle.judging.specs.Refusal.{refusal}
 use Rattle.server.proofs.Serves.{Accepted}
 use Rattle.server.proofs.InTheWay.{holders, keptHolders}
 

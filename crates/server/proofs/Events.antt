@@ -15,13 +15,16 @@ use Rattle.modes.specs.Modes.{mode}
 use Rattle.modes.specs.declared.Mode.{Mode}
 use Rattle.server.specs.State.{Status, Unknown, Live, TimingOut, Unmarked, Member, Profile, Server, nobody, noMark, noProfile, memberAt, profileAt, modeIn, markIn, statusOf, lastOf, modeOf, markOf}
 use Rattle.profiles.specs.Sets.{only, everyone, isLive, isKept, liveSet, marksWith, remark, marksChanged, wiped, wipeMark, dropKept, demand, keepMark, clashes}
+use Rattle.members.specs.Mark.{keptWord}
+use Rattle.members.proofs.Words.{stored-drop, stored-keep, stored-demand}
 use Rattle.profiles.specs.Ask.{withRow, askRule, freeOrNot, keptOrWait}
 use Rattle.server.specs.Event.{Request, Hello, KeepAlive, Ask, Release, Keep, Event, Message, Done, Granted, Wait, InUse, Nack, Refused}
 use Rattle.hearing.specs.declared.Heard.{Heard}
 use Rattle.hearing.specs.Hear.{answered, greeted, heed, welcome, ruledFor, byStatus, numbered, ifNew}
-use Rattle.server.specs.Refusal.{refusal}
+use Rattle.judging.specs.Refusal.{refusal}
 use Rattle.requests.specs.Request.{profileOf}
 use Rattle.server.specs.Step.{afterHeard, atReading, ifGood, step}
+use Rattle.judging.proofs.Refusals.{reading-good}
 use Rattle.server.proofs.Frames.{mode-wiped, width-wiped}
 use Rattle.server.proofs.Marks.{markAt, mark-changed, mark-eased, all-eased, mark-wiped, marks-wiped}
 use Rattle.server.proofs.Serves.{Sized, Accepted, at, changedAt, allOf, own, allOn, noLock, Told, along, by-tables}
@@ -111,7 +114,7 @@ module _ (wait : ℕ) (s : Server) (now i k : ℕ) (sized : Sized s) where
         unfolding byStatus heed
         keep accepted =
             only-marks wait s now i k (Keep p) accepted sized Done keepMark (only i) (λ (b : Bool) (j : ℕ). b && eqb j i) (λ j. refl)
-            (λ j. mark-eased keepMark refl (only i) (profileAt s p .marks) j
+            (λ j. mark-eased keepMark stored-keep refl (only i) (profileAt s p .marks) j
             ∙ ap (λ (b : Bool). cond b (keepMark (markOf s j p)) (markOf s j p)) (only-has i j (inside wait s now i k (Keep p) accepted .0)))
             (judged wait s now i k (Keep p) accepted new Live live)
 
@@ -154,7 +157,7 @@ module _ (wait : ℕ) (s : Server) (now i k : ℕ) (sized : Sized s) where
           ask-in-use kept =
               let marks = profileAt s p .marks in
               only-marks wait s now i k (Ask p asked) accepted sized (InUse p) dropKept everyone (λ (b : Bool) (j : ℕ). b) (λ j. refl)
-              (λ j. ap (λ (n : ℕ). markAt (marksChanged dropKept (replicate n true) marks) j) (sym (sized .profiles .marks p profile)) ∙ all-eased dropKept refl marks j)
+              (λ j. ap (λ (n : ℕ). markAt (marksChanged dropKept (replicate n true) marks) j) (sym (sized .profiles .marks p profile)) ∙ all-eased dropKept stored-drop refl marks j)
               (kept-or-wait true (any-both (holders s i p (asked .0)) (marksWith isKept marks) kept) kept)
 
           -- "Otherwise the answer is wait: each live incompatible holder is demanded, since now unless already demanded"; "The answer gives
@@ -165,10 +168,14 @@ module _ (wait : ℕ) (s : Server) (now i k : ℕ) (sized : Sized s) where
           ask-wait held kept =
               only-marks wait s now i k (Ask p asked) accepted sized _ (demand now) (liveHolders s i p (asked .0))
               (λ (b : Bool) (j : ℕ). b && (isInTheWay s i p (asked .0) j && isLive (statusOf s j))) (λ j. refl)
-              (λ j. mark-changed (demand now) (liveHolders s i p (asked .0)) (profileAt s p .marks) j (beyond j)
+              (λ j. mark-changed (demand now) (stored-demand now soon) (liveHolders s i p (asked .0)) (profileAt s p .marks) j (beyond j)
               ∙ ap (λ (b : Bool). cond b (demand now (markOf s j p)) (markOf s j p)) (has-demanded s i p (asked .0) j))
               (kept-or-wait false held kept)
             where
+              -- the reading is one that a word holds as it is
+              soon : now < keptWord
+              soon = omega (arith, reading-good (s .settings) (s .reading) now (Message i k (Ask p asked)) accepted)
+
               -- beyond the row there is no mode that could be in the way
               beyond : (j : ℕ) → length (profileAt s p .marks) ≤ j → cond (has (liveHolders s i p (asked .0)) j) (remark (demand now) noMark) noMark ≡ noMark
               beyond j h =

@@ -19,7 +19,7 @@ use Rattle.hearing.specs.Hear.{answered, greeted, byStatus, numbered, ifNew, he
 use Rattle.requests.specs.Request.{profileOf}
 use Rattle.server.specs.Step.{afterHeard, message, ifGood, step}
 use Rattle.server.proofs.Frames.{only-same, only-other, entry-wiped}
-use Rattle.server.proofs.Refusals.{in-arrays}
+use Rattle.judging.proofs.Refusals.{in-arrays}
 use Rattle.server.proofs.Marks.{markAt, full-wiped, full-set, marks-length, mark-entry-wiped}
 use Rattle.server.proofs.Serves.{Sized, Accepted, at, changedAt, allOf, noLock, Serves, Told, at-itself, along, by-tables}
 

@@ -13,7 +13,7 @@ use Rattle.masks.proofs.Sets.{has, no-right, has-both, has-none, has-at, has-th
 use Rattle.modes.specs.Modes.{mode, goesWith}
 use Rattle.modes.specs.declared.Mode.{Mode}
 use Rattle.modes.proofs.Laws.{symmetric, none-goes}
-use Rattle.server.specs.State.{Marked, Member, Server, nobody, noMark, profileAt, statusOf, modeOf, markOf}
+use Rattle.server.specs.State.{Marked, Member, Server, nobody, noMark, asMark, profileAt, statusOf, modeOf, markOf}
 use Rattle.profiles.specs.Sets.{isLive, isKept, liveSet, marksWith, clashes, conflicts}
 use Rattle.profiles.specs.Ask.{wantedBy, inTheWay}
 
@@ -76,7 +76,7 @@ module _ (s : Server) (i p asked : ℕ) where
   pub has-kept : (j : ℕ) → has (keptHolders s i p asked) j ≡ (isInTheWay s i p asked j && isKept (markOf s j p))
   has-kept j =
       of-holders (marksWith isKept (profileAt s p .marks)) j (isKept (markOf s j p))
-      (has-those (λ (m : Marked). isKept (m .mark)) noMark (profileAt s p .marks) j (λ h. refl))
+      (has-those (λ (m : Marked). isKept (asMark m)) noMark (profileAt s p .marks) j (λ h. refl))
 
   pub has-demanded : (j : ℕ) → has (liveHolders s i p asked) j ≡ (isInTheWay s i p asked j && isLive (statusOf s j))
   has-demanded j = of-holders (liveSet (s .members)) j (isLive (statusOf s j)) (has-live (s .members) j)

@@ -1,5 +1,6 @@
-pub mod Refusals
 pub mod Stepping
+pub mod Sweeping
+pub mod Judging
 pub mod Runs
 pub mod Told
 pub mod Frames
@@ -14,3 +15,7 @@ pub mod Cases
 pub mod Orderly
 pub mod Reachable
 pub mod Times
+pub mod Element
+pub mod Behind
+pub mod Walking
+pub mod Lending

@@ -10,30 +10,31 @@ use lib.Seq.{getD-set-same, getD-set-other}
 use borrow.Author.Tests.{eqb-true, eqb-false}
 use Rattle.masks.specs.Mask.{Set}
 use Rattle.masks.proofs.Sets.{has, changed, length-changed}
-use Rattle.server.specs.State.{Mark, Unmarked, Marked, Profile, noMark, noProfile, markIn}
+use Rattle.server.specs.State.{Mark, Unmarked, Marked, Profile, noMark, asMark, noProfile, markIn}
+use Rattle.members.specs.Mark.{asWord}
+use Rattle.members.proofs.Words.{Stored, stored-mark, stored-wipe}
 use Rattle.profiles.specs.Sets.{wipeMark, remark, marksChanged, wiped}
 use Rattle.server.proofs.Frames.{cond-same, Whole, whole-wiped, whole-set}
 
 -- the mark of station j in a row of marks, and on profile p in a list of profiles
 abbrev pub markAt : List Marked → ℕ → Mark
-markAt marks j = getD marks j noMark .mark
+markAt marks j = asMark (getD marks j noMark)
 
 abbrev pub markEntry : List Profile → ℕ → ℕ → Mark
 markEntry t j p = markIn (getD t p noProfile) j
 
--- marks changed in a set: the others are as they were
-module _ (f : Mark → Mark) where
-  chosen : (b : Bool) (m : Marked) → cond b (remark f m) m .mark ≡ cond b (f (m .mark)) (m .mark)
-  chosen true m = refl
+pub marks-length : (f : Mark → Mark) (s : Set) (marks : List Marked) → length (marksChanged f s marks) ≡ length marks
+marks-length f s marks = length-changed (remark f) s marks
+
+-- marks changed in a set, to such as a word can hold: the others are as they were
+module _ (f : Mark → Mark) (held : (k : Mark) → Stored k → Stored (f k)) where
+  chosen : (b : Bool) (m : Marked) → asMark (cond b (remark f m) m) ≡ cond b (f (asMark m)) (asMark m)
+  chosen true m = held (asMark m) (stored-mark m)
   chosen false m = refl
 
-  module _ (s : Set) (marks : List Marked) where
-    pub mark-changed : (j : ℕ) → (length marks ≤ j → cond (has s j) (remark f noMark) noMark ≡ noMark) →
-        markAt (marksChanged f s marks) j ≡ cond (has s j) (f (markAt marks j)) (markAt marks j)
-    mark-changed j ends = ap (λ (m : Marked). m .mark) (changed (remark f) noMark s marks j ends) ∙ chosen (has s j) (getD marks j noMark)
-
-    pub marks-length : length (marksChanged f s marks) ≡ length marks
-    marks-length = length-changed (remark f) s marks
+  pub mark-changed : (s : Set) (marks : List Marked) (j : ℕ) → (length marks ≤ j → cond (has s j) (remark f noMark) noMark ≡ noMark) →
+      markAt (marksChanged f s marks) j ≡ cond (has s j) (f (markAt marks j)) (markAt marks j)
+  mark-changed s marks j ends = ap asMark (changed (remark f) noMark s marks j ends) ∙ chosen (has s j) (getD marks j noMark)
 
   -- a rule that makes no mark where there is none
   module _ (eases : f Unmarked ≡ Unmarked) where
@@ -41,19 +42,19 @@ module _ (f : Mark → Mark) where
     mark-eased s marks j = mark-changed s marks j (λ h. none (has s j))
       where
         none : (b : Bool) → cond b (remark f noMark) noMark ≡ noMark
-        none true = ap (λ (m : Mark). record { mark = m }) eases
+        none true = ap asWord eases
         none false = refl
 
     -- in the set of everyone
     pub all-eased : (marks : List Marked) (j : ℕ) → markAt (marksChanged f (replicate (length marks) true) marks) j ≡ f (markAt marks j)
     all-eased [] j = sym eases
-    all-eased (m ∷ marks) zero = refl
+    all-eased (m ∷ marks) zero = held (asMark m) (stored-mark m)
     all-eased (m ∷ marks) (suc j) = all-eased marks j
 
 -- a wiped profile
 pub mark-wiped : (s : Set) (x : Profile) (j : ℕ) → markIn (wiped s x) j ≡ cond (has s j) Unmarked (markIn x j)
 unfolding wiped
-mark-wiped s x j = mark-eased wipeMark refl s (x .marks) j
+mark-wiped s x j = mark-eased wipeMark stored-wipe refl s (x .marks) j
 
 pub marks-wiped : (s : Set) (x : Profile) → length (wiped s x .marks) ≡ length (x .marks)
 unfolding wiped

@@ -12,12 +12,12 @@ use Rattle.modes.specs.Modes.{mode, goesWith}
 use Rattle.modes.specs.declared.Mode.{Mode}
 use Rattle.modes.proofs.Laws.{none-goes, join-small}
 use Rattle.timing.specs.declared.settings.Settings.{Settings}
-use Rattle.server.specs.State.{Status, Unknown, Live, TimingOut, Mark, Unmarked, Marked, Member, Profile, Server, nobody, noMark, emptyProfile, noProfile, newServer, modeIn, markIn, statusOf, lastOf, modeOf, markOf}
+use Rattle.server.specs.State.{Status, Unknown, Live, TimingOut, Mark, Unmarked, Member, Profile, Server, nobody, noMark, asMark, emptyProfile, noProfile, newServer, modeIn, markIn, statusOf, lastOf, modeOf, markOf}
 use Rattle.profiles.specs.Sets.{isLive, isWaited, wipeMark, dropKept, demand, keepMark, clashes}
 use Rattle.server.specs.Event.{Request, Hello, Ask, Event, Message, Tick, Answer, Done}
 use Rattle.requests.specs.Request.{profileOf}
 use Rattle.server.specs.Step.{Served, step}
-use Rattle.server.proofs.Refusals.{station-below, profile-below}
+use Rattle.judging.proofs.Refusals.{station-below, profile-below}
 use Rattle.server.proofs.Serves.{Sized, Accepted, at, changedAt, allOf, own, allOn, noLock, Serves, at-other}
 use Rattle.server.proofs.InTheWay.{none-clashes, wantedOn, isInTheWay, isDemanded, free-goes}
 use Rattle.server.proofs.Events.{refused, stale, nack-0, nack-1, hello, keep-alive, release, keep, ask-granted, ask-in-use, ask-wait}
@@ -71,7 +71,7 @@ module _ (z : Settings) where
   unfolding newServer
   new-nothing i p = (
     replicated (λ (x : Profile). modeIn x i) 0 emptyProfile noProfile (replicated (λ (m : Mode). m .0) 0 (mode 0) (mode 0) refl refl 16 i) refl 64 p,
-    replicated (λ (x : Profile). markIn x i) Unmarked emptyProfile noProfile (replicated (λ (m : Marked). m .mark) Unmarked noMark noMark refl refl 16 i) refl 64 p,
+    replicated (λ (x : Profile). markIn x i) Unmarked emptyProfile noProfile (replicated asMark Unmarked noMark noMark refl refl 16 i) refl 64 p,
   )
 
   new-lengths : Sized (newServer z)

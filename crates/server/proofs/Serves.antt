@@ -9,7 +9,7 @@ use lib.ListN.{length}
 use borrow.Author.Tests.{eqb-true, ne-eqb, eq-eqb}
 use Rattle.server.specs.State.{Status, Mark, Server, statusOf, lastOf, modeOf, markOf}
 use Rattle.server.specs.Event.{Request, Event, Message, Answer}
-use Rattle.server.specs.Refusal.{refusal}
+use Rattle.judging.specs.Refusal.{refusal}
 use Rattle.server.specs.Step.{Served, step}
 use Rattle.server.proofs.Marks.{Full}
 

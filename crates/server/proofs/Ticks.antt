@@ -7,7 +7,7 @@ use Prim.Native.Nat.{ℕ, zero, suc, _≤_}
 use lib.ListN.{length, getD, List·getD-eq-default}
 use Rattle.masks.specs.Mask.{Set, mask}
 use Rattle.masks.proofs.Sets.{has, no-right, has-both, has-either, has-those, changed, length-changed}
-use Rattle.server.specs.State.{Status, Unknown, TimingOut, Unmarked, Marked, Member, Profile, Server, nobody, noMark, markIn, statusOf, lastOf, modeOf, markOf}
+use Rattle.server.specs.State.{Status, Unknown, TimingOut, Unmarked, Marked, Member, Profile, Server, nobody, noMark, asMark, markIn, statusOf, lastOf, modeOf, markOf}
 use Rattle.profiles.specs.Sets.{isLive, isWaited, isLate, lateSet, restatus, turned, liveSet, marksWith, wiped, wipeMark}
 use Rattle.server.specs.Event.{Tick, Ticked}
 use Rattle.server.specs.Tick.{freedSet, free, startedSet, start}
@@ -36,7 +36,7 @@ has-late : (answer now : ℕ) (t : List Profile) (j : ℕ) → has (lateSet answ
 has-late answer now [] j = refl
 has-late answer now (x ∷ t) j =
     has-either (marksWith (isLate answer now) (x .marks)) (lateSet answer now t) j
-    ∙ ap (λ (b : Bool). b || has (lateSet answer now t) j) (has-those (λ (m : Marked). isLate answer now (m .mark)) noMark (x .marks) j (λ h. refl))
+    ∙ ap (λ (b : Bool). b || has (lateSet answer now t) j) (has-those (λ (m : Marked). isLate answer now (asMark m)) noMark (x .marks) j (λ h. refl))
     ∙ ap (λ (b : Bool). isLate answer now (markIn x j) || b) (has-late answer now t j)
 
 -- a status after freeing, and after starting

@@ -10,7 +10,7 @@ use Rattle.server.specs.State.{Status, Unknown, Live, TimingOut, Mark, U
 use Rattle.profiles.specs.Sets.{isLive, isWaited, wipeMark, dropKept, demand, keepMark}
 use Rattle.server.specs.Event.{Hello, KeepAlive, Ask, Release, Keep, Event, Message, Tick, Answer}
 use Rattle.server.specs.Step.{Served, step}
-use Rattle.server.proofs.Refusals.{reading-good}
+use Rattle.judging.proofs.Refusals.{reading-good}
 use Rattle.server.proofs.Serves.{Sized, Accepted, at, changedAt, allOf, own, allOn, Serves}
 use Rattle.server.proofs.InTheWay.{isDemanded}
 use Rattle.server.proofs.Events.{refused, stale, nack-0, nack-1, hello, keep-alive, release, keep, ask-granted, ask-in-use, ask-wait}

@@ -1,7 +1,8 @@
 pub mod State
 pub mod Event
 pub mod Tick
-pub mod Refusal
 pub mod Step
+pub mod Sweep
+pub mod Settle
 pub mod Border
 pub mod Run

@@ -10,7 +10,7 @@ pub use Rattle.members.specs.declared.mark.Mark.{Mark}
 pub use Rattle.members.specs.declared.mark.Mark.the-variants.{Unmarked, Demanded, Kept}
 pub use Rattle.members.specs.declared.mark.Marked.{Marked}
 pub use Rattle.members.specs.Member.{nobody}
-pub use Rattle.members.specs.Mark.{noMark}
+pub use Rattle.members.specs.Mark.{noMark, asMark}
 pub use Rattle.profiles.specs.declared.profile.Profile.{Profile}
 pub use Rattle.profiles.specs.Profile.{emptyProfile, noProfile, modeIn, markIn}
 pub use Rattle.server.specs.declared.server.Server.{Server}

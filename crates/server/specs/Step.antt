@@ -12,7 +12,7 @@ use Rattle.server.specs.Event.{Request, Event, Message, Tick, Ticked, Re
 use Rattle.requests.specs.Request.{profileOf}
 use Rattle.hearing.specs.declared.Heard.{Heard}
 use Rattle.hearing.specs.Hear.{hear}
-use Rattle.server.specs.Refusal.{refusal}
+use Rattle.judging.specs.Refusal.{refusal}
 use Rattle.server.specs.Tick.{freedSet, free, startedSet, start}
 pub use Rattle.server.specs.declared.server.Served.{Served}
 pub use Rattle.server.specs.declared.server.Made.{Made}

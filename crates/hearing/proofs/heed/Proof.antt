@@ -2,7 +2,9 @@
 use mathlib.Core.Path.{_≡_, ap, _∙_}
 use Prim.Native.Nat.{ℕ}
 use Rattle.profiles.specs.declared.profile.Profile.{Profile}
-use Rattle.profiles.specs.Sets.{liveSet, only, wiped}
+use Rattle.profiles.specs.Sets.{only, wiped}
+use Rattle.masks.specs.Mask.{setOf}
+use Rattle.timing.specs.Limits.{mostStations}
 use Rattle.profiles.specs.Ask.{askRule}
 use Rattle.profiles.specs.Under.{wipedUnder, keptUnder}
 use Rattle.profiles.specs.declared.answer.Answer.the-variants.{Done}
@@ -71,7 +73,7 @@ unfolding heed
 returns-3 c =
     let a = c .before .before .before .before .before .before .args in
     let v = c .before .before .before .before .request .given .0 in
-    let rule = askRule (liveSet (a .members)) (v .0) (a .now) (a .me) (v .1 .0 .0) (a .profile) in
+    let rule = askRule (setOf mostStations (a .live)) (v .0) (a .now) (a .me) (v .1 .0 .0) (a .profile) in
     c .answered2 .ensures ∙ ap (ruledFor (a .member)) (ruled-told _ rule (c .before .before .ask .ensures)) ∙ simp (c .before .before .before .before .request .given .1)
 
 returns-4 : tie.Need-returns-4

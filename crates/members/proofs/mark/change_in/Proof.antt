@@ -6,7 +6,8 @@ use lib.ListN.{length, take, drop, length-set}
 use native.Mathlib.Omega.{arith}
 use Rattle.masks.specs.Mask.{changeUnder}
 use Rattle.masks.proofs.Walk.{under-turn, under-end}
-use Rattle.members.specs.Mark.{noMark, remark, markChange}
+use Rattle.members.specs.Mark.{remark, markChange}
+use Rattle.members.proofs.Words.{beyond}
 use borrow.Author.Needs.{needs}
 use Rattle.members.proofs.mark.change_in.Statement.{statement}
 use Rattle.members.proofs.mark.change_in.Tie as tie
@@ -47,13 +48,13 @@ loop-again c =
     let l = c .before .before .before .loop in (
       omega arith,
       simp length-set (l .inv .1),
-      under-turn noMark (remark (markChange (c .before .before .before .before .args .change))) (l .w) (l .next) (l .i) (omega arith) _ (c .changed-if .ensures) ∙ l .inv .2,
+      under-turn beyond (remark (markChange (c .before .before .before .before .args .change))) (l .w) (l .next) (l .i) (omega arith) _ (c .changed-if .ensures) ∙ l .inv .2,
     )
 
 returns : tie.Need-returns Inv-loop μ-loop
 returns c =
     let l = c .before .loop in
-    sym (under-end noMark (remark (markChange (c .before .before .args .change))) (l .w) (l .next) (l .i) (omega arith)) ∙ l .inv .2
+    sym (under-end beyond (remark (markChange (c .before .before .args .change))) (l .w) (l .next) (l .i) (omega arith)) ∙ l .inv .2
 
 pub change-in-spec : {M : Type 1} → statement M
 change-in-spec =

@@ -7,13 +7,14 @@ use borrow.Author.Needs.{needs}
 use Rattle.masks.specs.Mask
 use Rattle.masks.specs.Mask.{those, bitOf}
 use Rattle.masks.proofs.Laws.{turn, room, none, bit-small}
-use Rattle.members.specs.Mark.{Marked, noMark, markTest}
+use Rattle.members.specs.Mark.{Marked, asMark, markTest}
+use Rattle.members.proofs.Words.{beyond}
 use Rattle.members.proofs.mark.marks_in.Statement.{statement}
 use Rattle.members.proofs.mark.marks_in.Tie as tie
 
 abbrev Inv-loop : tie.InvT-loop
 Inv-loop which marks mask₀ i₀ mask i =
-    (i ≤ 16) × ((length marks ≡ 16) × (mask ≡ Mask.mask (those (λ (m : Marked). markTest (which) (m .mark)) (drop i marks))))
+    (i ≤ 16) × ((length marks ≡ 16) × (mask ≡ Mask.mask (those (λ (m : Marked). markTest (which) (asMark m)) (drop i marks))))
 
 abbrev μ-loop : tie.MeasureT-loop
 μ-loop which marks mask₀ i₀ mask i = i
@@ -21,7 +22,7 @@ abbrev μ-loop : tie.MeasureT-loop
 loop-holds : tie.Need-loop-holds Inv-loop μ-loop
 loop-holds c =
     let l : length (c .args .t1) ≡ 16 = search needs in
-    (omega arith, (l, none (λ (m : Marked). markTest (c .args .which) (m .mark)) (c .args .t1) 16 (omega arith)))
+    (omega arith, (l, none (λ (m : Marked). markTest (c .args .which) (asMark m)) (c .args .t1) 16 (omega arith)))
 
 sub-i : tie.Need-sub-i Inv-loop μ-loop
 sub-i c = omega arith
@@ -34,7 +35,10 @@ array-copy-out-marked c = omega arith
 
 mul-mask : tie.Need-mul-mask Inv-loop μ-loop
 mul-mask c =
-    omega (arith, room (λ (m : Marked). markTest (c .before .before .before .args .which) (m .mark)) (c .before .before .before .args .t1) (c .before .before .loop .i) (omega arith) (omega arith))
+    omega (arith, room (λ (m : Marked). markTest (c .before .before .before .args .which) (asMark m)) (c .before .before .before .args .t1) (c .before .before .loop .i) (omega arith) (omega arith))
+
+mark-requires : tie.Need-mark-requires Inv-loop μ-loop
+mark-requires c κs = search needs
 
 is-one-requires : tie.Need-is-one-requires Inv-loop μ-loop
 is-one-requires c κs = search needs
@@ -44,15 +48,15 @@ bit-requires c κs = search needs
 
 add-mask : tie.Need-add-mask Inv-loop μ-loop
 add-mask c =
-    omega (arith, room (λ (m : Marked). markTest (c .before .before .before .before .before .args .which) (m .mark)) (c .before .before .before .before .before .args .t1) (c .before .before .before .before .loop .i) (omega arith) (omega arith), c .bit .ensures, bit-small (c .before .is-one .result))
+    omega (arith, room (λ (m : Marked). markTest (c .before .before .before .before .before .before .args .which) (asMark m)) (c .before .before .before .before .before .before .args .t1) (c .before .before .before .before .before .loop .i) (omega arith) (omega arith), c .bit .ensures, bit-small (c .before .is-one .result))
 
 loop-less : tie.Need-loop-less Inv-loop μ-loop
 loop-less c = omega arith
 
 loop-again : tie.Need-loop-again Inv-loop μ-loop
 loop-again c =
-    let t = turn (λ (m : Marked). markTest (c .before .before .before .before .before .args .which) (m .mark)) noMark (c .before .before .before .before .before .args .t1) (c .before .before .before .before .loop .i) (omega arith) (omega arith) in
-    let e = c .bit .ensures ∙ ap bitOf (c .before .is-one .ensures) in
+    let t = turn (λ (m : Marked). markTest (c .before .before .before .before .before .before .args .which) (asMark m)) beyond (c .before .before .before .before .before .before .args .t1) (c .before .before .before .before .before .loop .i) (omega arith) (omega arith) in
+    let e = c .bit .ensures ∙ ap bitOf (c .before .is-one .ensures ∙ ap (markTest (c .before .before .before .before .before .before .args .which)) (c .before .before .mark .ensures)) in
     (omega arith, (search needs, omega (arith, t, e)))
 
 returns : tie.Need-returns Inv-loop μ-loop
@@ -71,6 +75,7 @@ marks-in-spec =
     mul-marked
     array-copy-out-marked
     mul-mask
+    mark-requires
     is-one-requires
     bit-requires
     add-mask

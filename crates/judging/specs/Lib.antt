@@ -1,0 +1,3 @@
+pub mod Event
+pub mod Refusal
+pub mod Judge
