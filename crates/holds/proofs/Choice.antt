@@ -2,24 +2,16 @@
 -- Assumes nothing.
 use mathlib.Core.Path.{_≡_, sym, ap, _∙_}
 use mathlib.Core.Bool.{Bool, false, _&&_}
-use mathlib.Core.List.{List}
 use Prim.Native.Nat.{ℕ, _-_}
 use native.Mathlib.Omega.{arith}
 use lib.Dec.{leb}
-use lib.ListN.{set}
 use borrow.Author.Tests.{le-leb}
 use Rattle.timing.specs.declared.settings.Settings.{Settings}
 use Rattle.timing.specs.declared.settings.Phase.{Phase}
 use Rattle.timing.specs.Phase.{saidPhase, phaseAfter}
 use Rattle.timing.proofs.Said.{phase-told}
 use Rattle.timing.proofs.Choice.{both}
-use Rattle.holds.specs.Hold.{Hold, holdIn, changed}
 use Rattle.holds.specs.Stage.{Standing, Out, Open, Closing, isOut, openPhase, closingPhase, phaseAt, Stage, stageAt, early, notLate}
-
--- a hold read, changed and stored
-pub stored : (f : Hold → Hold) (holds : List Hold) (p : ℕ) (h k : Hold) (r : List Hold)
-    → r ≡ set holds p k → k ≡ f h → h ≡ holdIn holds p → r ≡ changed f p holds
-stored f holds p h k r e d g = e ∙ ap (set holds p) (d ∙ ap f g)
 
 -- the stage by the phase
 module _ (z : Settings) (σ : Standing) (start now : ℕ) (o : Bool) (n : ℕ) (d : o ≡ isOut σ) (e : n ≡ phaseAt z σ start now) where

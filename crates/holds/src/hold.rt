@@ -76,21 +76,6 @@ pub fn hold_at(holds: [Hold; Settings::PROFILES], profile: u8) -> Hold
     Hold::empty()
 }
 
-pub fn with_hold(
-    holds: [Hold; Settings::PROFILES],
-    profile: u8,
-    hold: Hold,
-) -> [Hold; Settings::PROFILES]
-    ensures { λ r. ⌜ r ≡ set holds profile hold ⌝ }
-{
-    let mut next = holds;
-    let at = profile as usize;
-    if at < Settings::PROFILES {
-        next[at] = hold;
-    }
-    next
-}
-
 // The profiles with something unwritten.
 pub fn unwritten_in(holds: [Hold; Settings::PROFILES]) -> u64
     ensures { λ r. ⌜ r ≡ mask (unwrittenSet holds) ⌝ }

@@ -10,11 +10,12 @@ use lib.Seq.{getD-set-same, getD-set-other}
 use borrow.Author.Tests.{eqb-true, eqb-false}
 use Rattle.modes.specs.declared.Mode.{Mode}
 use Rattle.timing.specs.Limits.{mostProfiles}
-use Rattle.station.specs.Event.{Request, Hello, KeepAlive, Ask, Release, Keep, Ack, Done, Granted, Wait, InUse, Event, Send, Begin, Edit, End, WriteOut, Restart, Acked, Nacked, Demand, Hold, Standing, Out, Open, Closing}
+use Rattle.station.specs.Event.{Hello, KeepAlive, Ask, Release, Keep, Done, Granted, Wait, InUse, Event, Send, Begin, Edit, End, WriteOut, Restart, Acked, Nacked, Demand, Hold, Standing, Out, Open, Closing}
 use Rattle.holds.specs.Hold.{noHold, noHolds, holdIn, withMode, withUnwritten, changed}
 use Rattle.holds.specs.Stage.{isOut}
 use Rattle.room.specs.Rules.{profileFor}
 use Rattle.station.specs.Effect.{nacked, standingAfter, sentAt, startAfter, lastAfter, waitingAfter, holdsAfter, begun, ended}
+use Rattle.station.specs.Parts.{holdChange}
 use Rattle.station.specs.Station.{Station, holdAt, modeOf, gone, atReading, isOver, endedIf, expire, isRestart, after}
 
 -- the lease's end
@@ -103,31 +104,6 @@ module _ (x : Station) (e : Event) where
   pub after-holds : after x e .holds ≡ holdsAfter (x .holds) e
   unfolding after
   after-holds = refl
-
--- what an event does to the hold of the profile that it names
-abbrev pub sentChange : Request → Hold → Hold
-sentChange Hello h = h
-sentChange KeepAlive h = h
-sentChange (Ask p m) h = h
-sentChange (Release p) h = withMode 0 h
-sentChange (Keep p) h = h
-
-abbrev pub ackedChange : Ack → Hold → Hold
-ackedChange Done h = h
-ackedChange (Granted p m) h = withMode (m .0) h
-ackedChange (Wait p) h = h
-ackedChange (InUse p) h = h
-
-abbrev pub holdChange : Event → Hold → Hold
-holdChange (Send q) h = sentChange q h
-holdChange (Begin p m) h = begun h
-holdChange (Edit p) h = withUnwritten true h
-holdChange (End p) h = ended h
-holdChange (WriteOut p) h = withUnwritten false h
-holdChange Restart h = noHold
-holdChange (Acked i k a) h = ackedChange a h
-holdChange (Nacked i k d) h = h
-holdChange (Demand i p m) h = h
 
 changed-at : (f : Hold → Hold) (holds : List Hold) (p q : ℕ) → p < length holds
     → holdIn (changed f p holds) q ≡ cond (eqb q p) (f (holdIn holds q)) (holdIn holds q)

@@ -1,6 +1,6 @@
 -- What an event that 1 to 6 do not refuse shows: settings and reading in range, and what it names with them.
 -- Assumes nothing.
-use mathlib.Core.Path.{_≡_}
+use mathlib.Core.Path.{_≡_, sym, _∙_}
 use mathlib.Core.Bool.{true}
 use Prim.Native.Nat.{ℕ, _<_, _≤_}
 use native.Mathlib.Omega.{arith}
@@ -64,3 +64,9 @@ heard-profile s now e h =
     let k = ranges (s .settings) (h .range) in
     let l = named-profile (s .settings .profiles) e (k .counts .profiles) (h .named) in
     (l, omega arith)
+
+-- r is what the code finds of 1 to 6, p the profile named
+pub found-profile : (s : Station) (now : ℕ) (e : Event) (r : ℕ) → r ≡ refusalOf s now e → r ≡ 0 → (p : ℕ) → p ≡ profileFor e → p < mostProfiles
+found-profile s now e r d h p q =
+    let k = heard-profile s now e (heard s now e (sym d ∙ h)) .1 in
+    omega arith

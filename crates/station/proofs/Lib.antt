@@ -3,6 +3,7 @@ pub mod Ways
 pub mod Said
 pub mod Steps
 pub mod Frames
+pub mod Apart
 pub mod Shown
 pub mod Heard
 pub mod Sound

@@ -10,7 +10,8 @@ use Rattle.requests.proofs.Request as request
 use Rattle.room.proofs.event.Ack as ack
 use Rattle.room.proofs.event.Event as event
 use Rattle.station.specs.Event.{Request, Hello, KeepAlive, Ask, Release, Keep, Waiting, Ack, Done, Granted, Wait, InUse, Event, Send, Begin, Edit, End, WriteOut, Restart, Acked, Nacked, Demand, Hold, Standing}
-use Rattle.station.specs.Effect.{standingAfter, startAfter, lastAfter, waitingAfter, holdsSent, holdsAcked, answerTo}
+use Rattle.station.specs.Effect.{standingAfter, startAfter, lastAfter, waitingAfter}
+use Rattle.station.specs.Parts.{sentChange, ackedChange, answerOn}
 use Rattle.station.specs.Station.{isRestart}
 use Rattle.station.specs.declared.event.Answer.the-variants as answer
 
@@ -72,26 +73,26 @@ waiting-stays w now (Acked i n a) k = absurd (miss (1 ∷ 2 ∷ 3 ∷ 4 ∷ 8 �
 waiting-stays w now (Nacked i n d) k = absurd (miss (1 ∷ 2 ∷ 3 ∷ 4 ∷ 8 ∷ []) 7 tt k)
 waiting-stays w now (Demand i p m) k = refl
 
-pub done : (number : ℕ) (holds : List Hold) (e : Event) → At (1 ∷ 2 ∷ 3 ∷ 4 ∷ 5 ∷ 6 ∷ 7 ∷ []) e → answer.Done ≡ answerTo number holds e
-done number holds (Send q) k = absurd (miss (1 ∷ 2 ∷ 3 ∷ 4 ∷ 5 ∷ 6 ∷ 7 ∷ []) 0 tt k)
-done number holds (Begin p m) k = refl
-done number holds (Edit p) k = refl
-done number holds (End p) k = refl
-done number holds (WriteOut p) k = refl
-done number holds Restart k = refl
-done number holds (Acked i n a) k = refl
-done number holds (Nacked i n d) k = refl
-done number holds (Demand i p m) k = absurd (miss (1 ∷ 2 ∷ 3 ∷ 4 ∷ 5 ∷ 6 ∷ 7 ∷ []) 8 tt k)
+pub done : (number : ℕ) (h : Hold) (e : Event) → At (1 ∷ 2 ∷ 3 ∷ 4 ∷ 5 ∷ 6 ∷ 7 ∷ []) e → answer.Done ≡ answerOn number h e
+done number h (Send q) k = absurd (miss (1 ∷ 2 ∷ 3 ∷ 4 ∷ 5 ∷ 6 ∷ 7 ∷ []) 0 tt k)
+done number h (Begin p m) k = refl
+done number h (Edit p) k = refl
+done number h (End p) k = refl
+done number h (WriteOut p) k = refl
+done number h Restart k = refl
+done number h (Acked i n a) k = refl
+done number h (Nacked i n d) k = refl
+done number h (Demand i p m) k = absurd (miss (1 ∷ 2 ∷ 3 ∷ 4 ∷ 5 ∷ 6 ∷ 7 ∷ []) 8 tt k)
 
-pub sent-holds : (holds : List Hold) (q : Request) → OneOf (0 ∷ 1 ∷ 2 ∷ 4 ∷ []) (tagOf request.the-type q) → holds ≡ holdsSent holds q
-sent-holds holds Hello k = refl
-sent-holds holds KeepAlive k = refl
-sent-holds holds (Ask p m) k = refl
-sent-holds holds (Release p) k = absurd (miss (0 ∷ 1 ∷ 2 ∷ 4 ∷ []) 3 tt k)
-sent-holds holds (Keep p) k = refl
+pub sent-stays : (h : Hold) (q : Request) → OneOf (0 ∷ 1 ∷ 2 ∷ 4 ∷ []) (tagOf request.the-type q) → h ≡ sentChange q h
+sent-stays h Hello k = refl
+sent-stays h KeepAlive k = refl
+sent-stays h (Ask p m) k = refl
+sent-stays h (Release p) k = absurd (miss (0 ∷ 1 ∷ 2 ∷ 4 ∷ []) 3 tt k)
+sent-stays h (Keep p) k = refl
 
-pub acked-holds : (holds : List Hold) (a : Ack) → OneOf (0 ∷ 2 ∷ 3 ∷ []) (tagOf ack.the-type a) → holds ≡ holdsAcked holds a
-acked-holds holds Done k = refl
-acked-holds holds (Granted p m) k = absurd (miss (0 ∷ 2 ∷ 3 ∷ []) 1 tt k)
-acked-holds holds (Wait p) k = refl
-acked-holds holds (InUse p) k = refl
+pub acked-stays : (h : Hold) (a : Ack) → OneOf (0 ∷ 2 ∷ 3 ∷ []) (tagOf ack.the-type a) → h ≡ ackedChange a h
+acked-stays h Done k = refl
+acked-stays h (Granted p m) k = absurd (miss (0 ∷ 2 ∷ 3 ∷ []) 1 tt k)
+acked-stays h (Wait p) k = refl
+acked-stays h (InUse p) k = refl

@@ -20,9 +20,10 @@ use Rattle.room.specs.Refusal.{namedRefusal}
 use Rattle.room.specs.Rules.{lastNumber, profileFor}
 use Rattle.station.specs.Effect.{nacked, sentAt, begun}
 use Rattle.station.specs.Station.{Station, holdAt, modeOf, startedOf, unwrittenOf, newStation, gone, atReading, isOver, expire, isRestart, refusalOf, forbids, after, step}
-use Rattle.station.proofs.Ways.{free}
+use Rattle.station.proofs.Ways.{send-free}
 use Rattle.station.proofs.Steps.{stepwise}
-use Rattle.station.proofs.Frames.{none-held, none-length, holdChange, hold-after, hold-restarted, after-length, nacked-out, ends, lasts}
+use Rattle.station.specs.Parts.{holdChange}
+use Rattle.station.proofs.Frames.{none-held, none-length, hold-after, hold-restarted, after-length, nacked-out, ends, lasts}
 use Rattle.station.proofs.Shown.{isHello, sent-by, release-shows, begin-shows, edit-shows, end-shows, write-shows, ack-shows, grant-covers}
 use Rattle.station.proofs.Heard.{heard, heard-profile}
 
@@ -151,7 +152,7 @@ nothing-waits Closing = refl
 posed-after : (x : Station) (e : Event) → forbids x e ≡ 0 → PosedAt x → PosedAt (after x e)
 unfolding after
 posed-after x (Send q) f g =
-    let n = ltb-true (x .last) lastNumber (free x (Send q) f .0) in
+    let n = ltb-true (x .last) lastNumber (send-free _ _ _ q f) in
     record {
       unstarted = g .unstarted;
       fits = ap (λ (σ : Standing). mayWait σ (Sent q (x .reading))) (sent-by x q f) ∙ sends q (x .reading);

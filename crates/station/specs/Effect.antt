@@ -5,7 +5,7 @@ use Prim.Native.Nat.{ℕ, _+_, _-_}
 use lib.Dec.{ltb}
 use Rattle.station.specs.Event.{Request, Hello, KeepAlive, Ask, Release, Keep, Waiting, Nothing, Sent, Ack, Done, Granted, Wait, InUse, Event, Send, Begin, Edit, End, WriteOut, Restart, Acked, Nacked, Demand, Hold, Standing, Out, Open, Closing}
 use Rattle.room.specs.Rules.{lastNumber}
-use Rattle.holds.specs.Hold.{mostStarted, noHolds, holdIn, withMode, withStarted, withUnwritten, changed}
+use Rattle.holds.specs.Hold.{noHolds, holdIn, withMode, withStarted, withUnwritten, changed}
 pub use Rattle.station.specs.declared.event.Advice.{Advice}
 use Rattle.station.specs.declared.event.Advice.the-variants as advice
 pub use Rattle.station.specs.declared.event.Answer.{Answer}
@@ -130,14 +130,3 @@ numberFree last Restart = true
 numberFree last (Acked i k a) = true
 numberFree last (Nacked i k d) = true
 numberFree last (Demand i p m) = true
-
-abbrev pub countFree : List Hold → Event → Bool
-countFree holds (Send q) = true
-countFree holds (Begin p m) = ltb (holdIn holds p .started) mostStarted
-countFree holds (Edit p) = true
-countFree holds (End p) = ltb 0 (holdIn holds p .started)
-countFree holds (WriteOut p) = true
-countFree holds Restart = true
-countFree holds (Acked i k a) = true
-countFree holds (Nacked i k d) = true
-countFree holds (Demand i p m) = true

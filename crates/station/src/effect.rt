@@ -5,14 +5,13 @@ use crate::event::Answer;
 use crate::event::Event;
 use crate::event::Request;
 use crate::event::Waiting;
-use holds::hold;
 use holds::hold::Hold;
 use holds::stage::Standing;
 use modes::Mode;
-use timing::settings::Settings;
 ghost use mathlib.Core.Path.{_≡_};
 ghost use mathlib.Core.Bool.{true};
-ghost use Rattle.station.specs.Effect.{standingAfter, nacked, sentAt, startAfter, lastAfter, waitingAfter, holdsSent, holdsAcked, holdsAfter, advised, answerTo, numberFree, countFree};
+ghost use Rattle.station.specs.Effect.{standingAfter, nacked, sentAt, startAfter, lastAfter, waitingAfter, advised, numberFree};
+ghost use Rattle.station.specs.Parts.{sentChange, ackedChange, holdChange, holdFree, answerOn};
 
 pub(crate) fn standing_after(standing: Standing, event: Event) -> Standing
     ensures { λ r. ⌜ r ≡ standingAfter standing event ⌝ }
@@ -79,60 +78,40 @@ pub(crate) fn waiting_after(waiting: Waiting, reading: u64, event: Event) -> Wai
 }
 
 // Release drops the mode at sending.
-fn holds_sent(holds: [Hold; Settings::PROFILES], request: Request) -> [Hold; Settings::PROFILES]
-    ensures { λ r. ⌜ r ≡ holdsSent holds request ⌝ }
+fn hold_sent(hold: Hold, request: Request) -> Hold
+    ensures { λ r. ⌜ r ≡ sentChange request hold ⌝ }
 {
     match request {
-        Request::Release(profile) => {
-            let held = hold::hold_at(holds, profile);
-            hold::with_hold(holds, profile, held.with_mode(Mode::NONE))
-        }
-        _ => holds,
+        Request::Release(_) => hold.with_mode(Mode::NONE),
+        _ => hold,
     }
 }
 
 // Granted sets the mode.
-fn holds_acked(holds: [Hold; Settings::PROFILES], ack: Ack) -> [Hold; Settings::PROFILES]
-    ensures { λ r. ⌜ r ≡ holdsAcked holds ack ⌝ }
+fn hold_acked(hold: Hold, ack: Ack) -> Hold
+    ensures { λ r. ⌜ r ≡ ackedChange ack hold ⌝ }
 {
     match ack {
-        Ack::Granted(profile, mode) => {
-            let held = hold::hold_at(holds, profile);
-            hold::with_hold(holds, profile, held.with_mode(mode))
-        }
-        _ => holds,
+        Ack::Granted(_, mode) => hold.with_mode(mode),
+        _ => hold,
     }
 }
 
-pub(crate) fn holds_after(
-    holds: [Hold; Settings::PROFILES],
-    event: Event,
-) -> [Hold; Settings::PROFILES]
-    requires { ⌜ countFree holds event ≡ true ⌝ }
-    ensures { λ r. ⌜ r ≡ holdsAfter holds event ⌝ }
+// `hold` is of the profile that the event names.
+pub(crate) fn hold_after(hold: Hold, event: Event) -> Hold
+    requires { ⌜ holdFree hold event ≡ true ⌝ }
+    ensures { λ r. ⌜ r ≡ holdChange event hold ⌝ }
 {
     match event {
-        Event::Send(request) => holds_sent(holds, request),
-        Event::Begin(profile, _) => {
-            let held = hold::hold_at(holds, profile);
-            hold::with_hold(holds, profile, held.with_started(held.started + 1))
-        }
-        Event::Edit(profile) => {
-            let held = hold::hold_at(holds, profile);
-            hold::with_hold(holds, profile, held.with_unwritten(true))
-        }
-        Event::End(profile) => {
-            let held = hold::hold_at(holds, profile);
-            hold::with_hold(holds, profile, held.with_started(held.started - 1))
-        }
-        Event::WriteOut(profile) => {
-            let held = hold::hold_at(holds, profile);
-            hold::with_hold(holds, profile, held.with_unwritten(false))
-        }
-        Event::Restart => hold::no_holds(),
-        Event::Ack(_, _, ack) => holds_acked(holds, ack),
-        Event::Nack(_, _, _) => holds,
-        Event::Demand(_, _, _) => holds,
+        Event::Send(request) => hold_sent(hold, request),
+        Event::Begin(_, _) => hold.with_started(hold.started + 1),
+        Event::Edit(_) => hold.with_unwritten(true),
+        Event::End(_) => hold.with_started(hold.started - 1),
+        Event::WriteOut(_) => hold.with_unwritten(false),
+        Event::Restart => Hold::empty(),
+        Event::Ack(_, _, ack) => hold_acked(hold, ack),
+        Event::Nack(_, _, _) => hold,
+        Event::Demand(_, _, _) => hold,
     }
 }
 
@@ -149,14 +128,14 @@ fn advice(hold: Hold) -> Advice
     Advice::Release
 }
 
-// `number` is the last one after the event.
-pub(crate) fn answer_to(number: u32, holds: [Hold; Settings::PROFILES], event: Event) -> Answer
-    ensures { λ r. ⌜ r ≡ answerTo number holds event ⌝ }
+// `number` is the last one after the event, `hold` of the profile that it names.
+pub(crate) fn answer_to(number: u32, hold: Hold, event: Event) -> Answer
+    ensures { λ r. ⌜ r ≡ answerOn number hold event ⌝ }
 {
     match event {
         Event::Send(request) => Answer::Sent(number, request),
-        Event::Demand(_, profile, _) => {
-            let advised = advice(hold::hold_at(holds, profile));
+        Event::Demand(_, _, _) => {
+            let advised = advice(hold);
             Answer::Advice(advised)
         }
         _ => Answer::Done,

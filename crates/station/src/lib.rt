@@ -2,4 +2,5 @@
 pub mod border;
 mod effect;
 pub mod event;
+mod parts;
 pub mod station;

@@ -1,10 +1,10 @@
 // A station: its settings and number, where it stands, and what it holds.
-use crate::effect;
 use crate::event::Answer;
 use crate::event::Event;
 use crate::event::PhaseAnswer;
 use crate::event::UseAnswer;
 use crate::event::Waiting;
+use crate::parts::Parts;
 use holds::hold;
 use holds::hold::Hold;
 use holds::stage;
@@ -14,14 +14,12 @@ use room::rules;
 use timing::reading::Reading;
 use timing::settings::Settings;
 ghost use mathlib.Core.Path.{_≡_};
-ghost use mathlib.Core.Bool.{true, _&&_, not};
-ghost use lib.Count.{ones};
+ghost use mathlib.Core.Bool.{_&&_, _||_, not};
 ghost use Rattle.masks.specs.Mask.{mask};
-ghost use Rattle.timing.specs.Settings.{inRange};
-ghost use Rattle.station.specs.Effect.{numberFree, countFree};
 ghost use Rattle.holds.specs.Stage.{isOut};
 ghost use Rattle.timing.specs.Reading.{passed};
-ghost use Rattle.station.specs.Station.{isRestart, lostIf, endedIf, forbids, after, made, step, judged, phaseAsked, mayUse};
+ghost use Rattle.station.specs.Station.{isRestart, lostIf, made, step, phaseAsked, mayUse};
+ghost use Rattle.station.specs.Parts.{joined};
 ghost use Rattle.station.specs.Said.{told, saidPhase, saidUse};
 
 pub struct Station {
@@ -59,6 +57,16 @@ fn is_restart(event: Event) -> bool
     }
 }
 
+// Whether all but the numbers and the reading goes before the event is judged. A restart leaves no more than the end of a lease does.
+fn clears(over: bool, event: Event) -> bool
+    ensures { λ r. ⌜ r ≡ (over || isRestart event) ⌝ }
+{
+    if over {
+        return true;
+    }
+    is_restart(event)
+}
+
 // The profiles that an event loses; `over` is whether the lease ends at it.
 fn lost_at(over: bool, event: Event, holds: [Hold; Settings::PROFILES]) -> u64
     ensures { λ r. ⌜ r ≡ mask (lostIf (over && not (isRestart event)) holds) ⌝ }
@@ -82,6 +90,29 @@ fn lease_over(standing: Standing, start: u64, lease: u64, reading: u64) -> bool
     Reading::passed(start, lease, reading)
 }
 
+fn joined(
+    settings: Settings,
+    number: u8,
+    reading: u64,
+    parts: Parts,
+    holds: [Hold; Settings::PROFILES],
+) -> Station
+    ensures { λ r. ⌜ r ≡ joined settings number reading parts holds ⌝ }
+{
+    let standing = parts.standing;
+    let waiting = parts.waiting;
+    Station {
+        settings,
+        number,
+        standing,
+        start: parts.start,
+        last: parts.last,
+        reading,
+        waiting,
+        holds,
+    }
+}
+
 impl Station {
     pub fn new(settings: Settings, number: u8) -> Made
         ensures { λ r. ⌜ r ≡ made settings number ⌝ }
@@ -102,7 +133,7 @@ impl Station {
         }
     }
 
-    // Any event at any reading.
+    // Any event at any reading. The station is taken apart and put together once, since each function that holds it whole copies it.
     pub fn step(self, reading: u64, event: Event) -> Stepped
         ensures { λ r. ⌜ told r ≡ told (step self reading event) ⌝ }
     {
@@ -117,94 +148,29 @@ impl Station {
             };
         }
         let standing = self.standing;
-        let over = lease_over(standing, self.start, settings.lease(), reading);
-        let holds = self.holds;
-        let lost = lost_at(over, event, holds);
-        let now = self.arrived(over, reading);
-        now.judged(event, lost)
-    }
-
-    // At a new reading, with the lease ended where it is over.
-    fn arrived(self, over: bool, reading: u64) -> Station
-        ensures { λ r. ⌜ r ≡ endedIf over self reading ⌝ }
-    {
-        let settings = self.settings;
-        if over {
-            let holds = hold::no_holds();
-            return Station {
-                settings,
-                number: self.number,
-                standing: Standing::Out,
-                start: 0,
-                last: self.last,
-                reading,
-                waiting: Waiting::Nothing,
-                holds,
-            };
+        let waiting = self.waiting;
+        let mut holds = self.holds;
+        let lease = settings.lease();
+        let over = lease_over(standing, self.start, lease, reading);
+        let cleared = clears(over, event);
+        let mut lost: u64 = 0;
+        if cleared {
+            lost = lost_at(over, event, holds);
+            holds = hold::no_holds();
         }
-        let mut s = self;
-        s.reading = reading;
-        s
-    }
-
-    // The event, at a station that has taken its reading.
-    fn judged(self, event: Event, lost: u64) -> Stepped
-        requires { ⌜ inRange (self .settings) ≡ true ⌝ }
-        ensures { λ r. ⌜ r ≡ judged self event lost (ones lost) ⌝ }
-    {
-        let count = masks::count(lost);
-        let code = self.forbids(event);
-        if code != 0 {
-            return Stepped {
-                station: self,
-                answer: Answer::Refused(code),
-                lost,
-                count,
-            };
-        }
-        let holds = self.holds;
-        let next = self.after(event);
+        let at = rules::profile_for(event) as usize;
+        let hold = holds[at];
+        let before = Parts::arrived(cleared, standing, self.start, self.last, waiting, hold);
+        let outcome = before.judged(settings, lease, reading, event);
+        let parts = outcome.parts;
+        let answer = outcome.answer;
+        let changed = parts.hold;
+        holds[at] = changed;
         Stepped {
-            station: next,
-            answer: effect::answer_to(next.last, holds, event),
+            station: joined(settings, self.number, reading, parts, holds),
+            answer,
             lost,
-            count,
-        }
-    }
-
-    // 8 to 14, or 0.
-    fn forbids(self, event: Event) -> u8
-        requires { ⌜ inRange (self .settings) ≡ true ⌝ }
-        ensures { λ r. ⌜ r ≡ forbids self event ⌝ }
-    {
-        let settings = self.settings;
-        let standing = self.standing;
-        let waiting = self.waiting;
-        let holds = self.holds;
-        let now = self.reading;
-        let at = stage::stage_of(settings, standing, self.start, now);
-        let held = hold::hold_at(holds, rules::profile_for(event));
-        rules::forbids(at, held, waiting, settings.lease(), now, self.last, event)
-    }
-
-    fn after(self, event: Event) -> Station
-        requires { ⌜ (numberFree (self .last) event ≡ true) × (countFree (self .holds) event ≡ true) ⌝ }
-        ensures { λ r. ⌜ r ≡ after self event ⌝ }
-    {
-        let settings = self.settings;
-        let standing = self.standing;
-        let waiting = self.waiting;
-        let holds = self.holds;
-        let sent = effect::sent_at(waiting);
-        Station {
-            settings,
-            number: self.number,
-            standing: effect::standing_after(standing, event),
-            start: effect::start_after(self.start, sent, event),
-            last: effect::last_after(self.last, event),
-            reading: self.reading,
-            waiting: effect::waiting_after(waiting, self.reading, event),
-            holds: effect::holds_after(holds, event),
+            count: masks::count(lost),
         }
     }
 
