@@ -1,4 +1,6 @@
 // 'Checked by hand': every row, run through the engines' public functions. A line for each, with what it should be and what it was.
+#![tactic(auto)]
+
 mod say;
 mod story;
 

@@ -1,4 +1,6 @@
 // A station's message, judged on that station and the one profile that it names.
+#![tactic(auto)]
+
 ghost use Rattle.std.specs.Prelude.{◌≡◌, cond, []};
 ghost use Rattle.masks.specs.Mask.{mask, set_of};
 ghost use Rattle.timing.specs.Limits.{most_stations};
@@ -14,7 +16,7 @@ use requests::Request;
 use timing::settings::Settings;
 
 // The station and the profile afterwards, whether all that the station had is to go, and the answer.
-#[derive(Drop)]
+#[derive(Clone, Copy)]
 pub struct Heard {
     pub member: Member,
     pub profile: Profile,

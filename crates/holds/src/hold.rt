@@ -6,7 +6,7 @@ ghost use Rattle.holds.specs.Hold.{no_hold, no_holds, hold_in, with_mode, with_s
 use modes::Mode;
 use timing::settings::Settings;
 
-#[derive(Drop)]
+#[derive(Clone, Copy)]
 pub struct Hold {
     pub mode: Mode,
     pub started: u8,

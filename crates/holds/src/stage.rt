@@ -4,14 +4,14 @@ ghost use Rattle.holds.specs.Stage.{is_out, open_phase, closing_phase, phase_at,
 
 use timing::settings::{Phase, Settings};
 
-#[derive(Drop)]
+#[derive(Clone, Copy)]
 pub enum Standing {
     Out,
     Open,
     Closing,
 }
 
-#[derive(Drop)]
+#[derive(Clone, Copy)]
 pub struct Stage {
     pub out: bool,
     // Open, phase 1 or 2.

@@ -11,7 +11,7 @@ use profiles::profile::Profile;
 use timing::settings::Settings;
 
 // What an event is about: 1 to 6 where it is refused, else 0; its station and its profile, the first where it names none.
-#[derive(Drop)]
+#[derive(Clone, Copy)]
 pub struct Route {
     pub code: u8,
     pub station: usize,
@@ -19,13 +19,13 @@ pub struct Route {
 }
 
 // What has to be looked at to judge it: the profile, who is live.
-#[derive(Drop)]
+#[derive(Clone, Copy)]
 pub struct Needs {
     pub profile: bool,
     pub live: bool,
 }
 
-#[derive(Drop)]
+#[derive(Clone, Copy)]
 pub struct Judged {
     // A tick: what it answers is known once it is done.
     pub ticks: bool,

@@ -1,4 +1,6 @@
 // Sets of stations or profiles as masks of 64 bits, the first as the lowest bit.
+#![tactic(auto)]
+
 ghost use Rattle.std.specs.Prelude.{◌≡◌};
 ghost use Rattle.std.specs.Int.Count.{ones, count_trailing_zeros};
 ghost use Rattle.masks.specs.Mask.{bit_of};

@@ -6,7 +6,7 @@ ghost use Rattle.members.specs.Mark.{as_word, as_mark, is_marked, marked_test, m
 use timing::reading::Reading;
 use timing::settings::Settings;
 
-#[derive(Drop)]
+#[derive(Clone, Copy)]
 pub enum Mark {
     Unmarked,
     Demanded(u64),
@@ -18,7 +18,7 @@ pub const EVERYONE: u64 = 65_535;
 
 // A mark as it is stored, an element of an array of marks: the reading since which the mode is demanded, or one of the
 // two highest numbers, which no reading is. So a mark takes eight bytes, and each number is one mark.
-#[derive(Drop)]
+#[derive(Clone, Copy)]
 pub struct Marked {
     word: u64,
 }
@@ -52,7 +52,7 @@ impl Marked {
 }
 
 // What an event does to a mark.
-#[derive(Drop)]
+#[derive(Clone, Copy)]
 pub enum Change {
     Wipe,
     DropKept,
@@ -141,7 +141,7 @@ pub fn some_in(marks: [Marked; Settings::STATIONS], set: u64) -> bool
 }
 
 // Which marks are asked for: the kept ones, or those demanded for `answer` or more ticks at the reading `now`.
-#[derive(Drop)]
+#[derive(Clone, Copy)]
 pub enum Which {
     Kept,
     Late { now: u64, answer: u64 },

@@ -6,7 +6,7 @@ ghost use Rattle.members.specs.Member.{restatus, status_test};
 use timing::reading::Reading;
 use timing::settings::Settings;
 
-#[derive(Drop)]
+#[derive(Clone, Copy)]
 pub enum Status {
     Unknown,
     Live,
@@ -14,7 +14,7 @@ pub enum Status {
     TimingOut(u64),
 }
 
-#[derive(Drop)]
+#[derive(Clone, Copy)]
 pub struct Member {
     pub status: Status,
     pub last: u32,
@@ -24,7 +24,7 @@ pub struct Member {
 pub type Members = [Member; Settings::STATIONS];
 
 // Which stations are asked for: the live ones, or those timing out for `wait` or more ticks at the reading `now`.
-#[derive(Drop)]
+#[derive(Clone, Copy)]
 pub enum Which {
     Live,
     Waited { now: u64, wait: u64 },

@@ -1,10 +1,12 @@
 // The six modes of a lock, and which of them go together, cover one another and join to which.
+#![tactic(auto)]
+
 ghost use Rattle.std.specs.Prelude.{◌≡◌};
 ghost use Rattle.modes.specs.Modes.{as_mode, is_mode, goes_with, covers, join, writes, mode};
 ghost use Rattle.modes.specs.Place.{place_of};
 
 // A mode by its number in the paper. A number above 6 counts as no lock everywhere.
-#[derive(Drop)]
+#[derive(Clone, Copy)]
 pub struct Mode(pub u8);
 
 impl Mode {

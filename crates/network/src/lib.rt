@@ -1,1 +1,2 @@
 // Theorems over the engines. It has no code.
+#![tactic(auto)]

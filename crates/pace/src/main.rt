@@ -1,5 +1,7 @@
 // Runs a fixed stream of one kind of event through an engine, many times, so that it can be timed.
 // Each line of the input is a kind (docs/ARCHITECTURE.md lists them) and how many events; printed are both, and a sum of the answers.
+#![tactic(auto)]
+
 mod ground; // settings and numbers
 mod input; // the numbers of the input
 mod rooms; // streams for a room

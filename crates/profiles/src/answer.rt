@@ -1,7 +1,7 @@
 // What the server answers. The ask rule gives three of these.
 use modes::Mode;
 
-#[derive(Drop)]
+#[derive(Clone, Copy)]
 pub enum Answer {
     Done,
     // Profile and mode.

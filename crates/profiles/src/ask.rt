@@ -12,7 +12,7 @@ use members::mark;
 use members::mark::{Change, EVERYONE, Which};
 use modes::Mode;
 
-#[derive(Drop)]
+#[derive(Clone, Copy)]
 pub struct Ruled {
     pub profile: Profile,
     pub answer: Answer,

@@ -11,7 +11,7 @@ use members::mark::{Change, EVERYONE, Mark, Marked, Which};
 use modes::Mode;
 use timing::settings::Settings;
 
-#[derive(Drop)]
+#[derive(Clone, Copy)]
 pub struct Profile {
     pub(crate) row: [Mode; Settings::STATIONS],
     pub(crate) marks: [Marked; Settings::STATIONS],

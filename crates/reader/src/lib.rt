@@ -1,24 +1,26 @@
 // The reader: it stands on the received bytes and remembers how far it has come.
+#![tactic(auto)]
+
 ghost use Rattle.std.specs.Prelude.{◌≡◌};
 ghost use Rattle.reader.specs.Reader.{step_at, taken_by, said_taken, passed_from};
 
 use record::{Read, record_at};
 
-#[derive(Drop)]
+#[derive(Clone, Copy)]
 pub struct Reader<'a> {
     src: &'a [u8],
     at: usize,
 }
 
 // What was read, and the reader afterwards: past the record, or where it stood.
-#[derive(Drop)]
+#[derive(Clone, Copy)]
 pub struct Taken<'a> {
     pub read: Read,
     pub reader: Reader<'a>,
 }
 
 // How many records stand one after another, the place after them, and why no further one does.
-#[derive(Drop)]
+#[derive(Clone, Copy)]
 pub struct Passed {
     pub count: usize,
     pub next: usize,
@@ -26,7 +28,7 @@ pub struct Passed {
 }
 
 // What was read, and the place then.
-#[derive(Drop)]
+#[derive(Clone, Copy)]
 struct Step {
     read: Read,
     at: usize,

@@ -1,4 +1,6 @@
 // The message record: eleven bytes, what they may say and how they are read. The writer is a crate of its own.
+#![tactic(auto)]
+
 mod allow; // which messages the record allows
 mod message; // a message's six numbers, and the record's numbers by name
 mod number; // numbers of four bytes, high first

@@ -2,7 +2,7 @@
 use timing::settings::Settings;
 
 // Six plain numbers, so that a message the record does not allow can be put to the writer and is refused there.
-#[derive(Drop)]
+#[derive(Clone, Copy)]
 pub struct Message {
     pub kind: u8,
     pub station: u8,

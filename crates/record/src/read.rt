@@ -7,7 +7,7 @@ use crate::message::Message;
 use crate::number::number_of;
 
 // The message and the place after its record, or the number of refusal.
-#[derive(Drop)]
+#[derive(Clone, Copy)]
 pub enum Read {
     Record(Message, usize),
     Refused(u8),

@@ -3,14 +3,14 @@ use crate::words::{Word, is_word, next_u8, next_u32, next_word};
 use modes::Mode;
 use station::event::{Ack, Event};
 
-#[derive(Drop)]
+#[derive(Clone, Copy)]
 pub(crate) enum Heard {
     Event(Event),
     // No such message.
     Nothing,
 }
 
-#[derive(Drop)]
+#[derive(Clone, Copy)]
 enum Said {
     Ack(Ack),
     Nothing,

@@ -14,7 +14,7 @@ const REFUSED: Text = *b"refused # *\n............................";
 // What the buffer of a `write` line holds before it.
 const UNWRITTEN: u8 = 0xEE;
 
-#[derive(Drop)]
+#[derive(Clone, Copy)]
 struct Fields {
     message: Message,
     end: usize,

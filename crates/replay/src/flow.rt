@@ -6,7 +6,7 @@ use crate::reply::{Reply, put_reply};
 use libc::STDIN_FILENO;
 
 // How far the three buffers are used.
-#[derive(Drop)]
+#[derive(Clone, Copy)]
 pub(crate) struct Flow {
     // The bytes of the chunk that are not taken yet.
     at: usize,

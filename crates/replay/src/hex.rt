@@ -8,7 +8,7 @@ use crate::words::{NOWHERE, is_word, next_word};
 pub(crate) const MOST: usize = 64;
 
 // The first `count` bytes stand in the line.
-#[derive(Drop)]
+#[derive(Clone, Copy)]
 pub(crate) struct Hex {
     pub(crate) bytes: [u8; MOST],
     pub(crate) count: usize,

@@ -3,7 +3,7 @@ use crate::words::{Word, first, first_word, is_word, next_u32, next_u64};
 use crate::{rooms, serve};
 use timing::settings::Settings;
 
-#[derive(Drop)]
+#[derive(Clone, Copy)]
 pub(crate) enum Line {
     Settings(Settings),
     // A reading and an event.
@@ -15,14 +15,14 @@ pub(crate) enum Line {
     Plain(Plain),
 }
 
-#[derive(Drop)]
+#[derive(Clone, Copy)]
 pub(crate) enum Question {
     Phase,
     Use(u8),
 }
 
 // What needs no engine.
-#[derive(Drop)]
+#[derive(Clone, Copy)]
 pub(crate) enum Plain {
     Nothing,
     Bad,

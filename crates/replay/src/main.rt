@@ -1,4 +1,6 @@
 // Plays a script of events through one server engine and sixteen room engines, and prints every answer.
+#![tactic(auto)]
+
 mod acks; // what a server's message to a room says
 mod asked; // what a station's message asks, in either engine's lines
 mod bytes; // the lines that read and write a record

@@ -18,7 +18,7 @@ pub(crate) const NO_SETTINGS: Text = *b"no settings\n...........................
 
 const REFUSED: Text = *b"refused #\n..............................";
 
-#[derive(Drop)]
+#[derive(Clone, Copy)]
 pub(crate) struct Reply {
     text: Text,
     // The first `used` of them.

@@ -5,26 +5,26 @@ ghost use Rattle.std.specs.Prelude.{◌≤◌};
 pub(crate) const NOWHERE: usize = usize::MAX;
 
 // A word: its first byte, and the place after its last.
-#[derive(Drop)]
+#[derive(Clone, Copy)]
 pub(crate) struct Word {
     pub(crate) from: usize,
     pub(crate) end: usize,
 }
 
-#[derive(Drop)]
+#[derive(Clone, Copy)]
 pub(crate) struct Number {
     pub(crate) value: u64,
     pub(crate) end: usize,
 }
 
 // A number of 32 bits.
-#[derive(Drop)]
+#[derive(Clone, Copy)]
 pub(crate) struct Number32 {
     pub(crate) value: u32,
     pub(crate) end: usize,
 }
 
-#[derive(Drop)]
+#[derive(Clone, Copy)]
 pub(crate) struct Number8 {
     pub(crate) value: u8,
     pub(crate) end: usize,

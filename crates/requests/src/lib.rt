@@ -1,4 +1,6 @@
 // What a station asks of the server: what it names, what of it is out of range, and the message that it is.
+#![tactic(auto)]
+
 ghost use Rattle.std.specs.Prelude.{◌≡◌};
 ghost use Rattle.modes.specs.Modes.{is_mode};
 ghost use Rattle.record.specs.Message.{message};
@@ -8,7 +10,7 @@ use modes::Mode;
 use record::Message;
 
 // Profile and mode are numbers as given or received.
-#[derive(Drop)]
+#[derive(Clone, Copy)]
 pub enum Request {
     Hello,
     KeepAlive,
@@ -18,7 +20,7 @@ pub enum Request {
 }
 
 // What a message asks, or nothing where it is of another kind.
-#[derive(Drop)]
+#[derive(Clone, Copy)]
 pub enum Asked {
     For(Request),
     Nothing,

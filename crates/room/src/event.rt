@@ -3,14 +3,14 @@ use modes::Mode;
 pub use requests::Request;
 
 // The waiting message and the reading at its sending. Its number is the last number.
-#[derive(Drop)]
+#[derive(Clone, Copy)]
 pub enum Waiting {
     Nothing,
     Sent(Request, u64),
 }
 
 // What an ACK says: done, or of a profile.
-#[derive(Drop)]
+#[derive(Clone, Copy)]
 pub enum Ack {
     Done,
     Granted(u8, Mode),
@@ -18,7 +18,7 @@ pub enum Ack {
     InUse(u8),
 }
 
-#[derive(Drop)]
+#[derive(Clone, Copy)]
 pub enum Event {
     Send(Request),
     // Begin an operation in a mode.

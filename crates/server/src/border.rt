@@ -13,7 +13,7 @@ use timing::settings::Settings;
 use writer::{Run, Written};
 
 // An event, or a message of the other side's kinds, which is the caller's to drop.
-#[derive(Drop)]
+#[derive(Clone, Copy)]
 pub enum Meant {
     For(Event),
     NotForServer,

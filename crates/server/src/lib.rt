@@ -1,4 +1,6 @@
 // The server engine: it takes any event at any reading, answers, and stops.
+#![tactic(auto)]
+
 pub mod border;
 pub mod event;
 mod judge; // an event, judged where the server stands

@@ -13,7 +13,7 @@ use members::member::{Member, Members, Status};
 use profiles::profile::Profile;
 use timing::settings::Settings;
 
-#[derive(Drop)]
+#[derive(Clone, Copy)]
 pub struct Server {
     pub(crate) settings: Settings,
     pub(crate) reading: u64,
@@ -22,13 +22,13 @@ pub struct Server {
 }
 
 // A new server, and 0 or the refusal of its settings.
-#[derive(Drop)]
+#[derive(Clone, Copy)]
 pub struct Made {
     pub server: Server,
     pub refusal: u8,
 }
 
-#[derive(Drop)]
+#[derive(Clone, Copy)]
 pub struct Served {
     pub server: Server,
     pub answer: Answer,

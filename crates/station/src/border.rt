@@ -8,7 +8,7 @@ use modes::Mode;
 use record::Message;
 
 // An event, or a message of the other side's kinds, which is the caller's to drop.
-#[derive(Drop)]
+#[derive(Clone, Copy)]
 pub enum Meant {
     For(Event),
     NotForRoom,

@@ -2,14 +2,14 @@
 pub use room::event::{Ack, Event, Request, Waiting};
 
 // To keep the profile, to write it out first, or to release it.
-#[derive(Drop)]
+#[derive(Clone, Copy)]
 pub enum Advice {
     Keep,
     WriteOut,
     Release,
 }
 
-#[derive(Drop)]
+#[derive(Clone, Copy)]
 pub enum Answer {
     Done,
     // A message to send, with its number.
@@ -20,14 +20,14 @@ pub enum Answer {
 }
 
 // 1 to 4, or out.
-#[derive(Drop)]
+#[derive(Clone, Copy)]
 pub enum PhaseAnswer {
     Phase(u8),
     Out,
     Refused(u8),
 }
 
-#[derive(Drop)]
+#[derive(Clone, Copy)]
 pub enum UseAnswer {
     Yes,
     No,

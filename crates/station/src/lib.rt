@@ -1,4 +1,6 @@
 // The room engine: it takes any event at any reading, answers, and stops.
+#![tactic(auto)]
+
 pub mod border;
 mod effect;
 pub mod event;

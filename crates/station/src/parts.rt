@@ -11,7 +11,7 @@ use holds::stage::Standing;
 use room::rules;
 use timing::settings::Settings;
 
-#[derive(Drop)]
+#[derive(Clone, Copy)]
 pub(crate) struct Parts {
     pub(crate) standing: Standing,
     // The lease start; 0 where the station is out.
@@ -22,7 +22,7 @@ pub(crate) struct Parts {
 }
 
 // The parts afterwards, and the answer.
-#[derive(Drop)]
+#[derive(Clone, Copy)]
 pub(crate) struct Outcome {
     pub(crate) parts: Parts,
     pub(crate) answer: Answer,

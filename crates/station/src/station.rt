@@ -16,7 +16,7 @@ use room::{refusal, rules};
 use timing::reading::Reading;
 use timing::settings::Settings;
 
-#[derive(Drop)]
+#[derive(Clone, Copy)]
 pub struct Station {
     settings: Settings,
     number: u8,
@@ -30,14 +30,14 @@ pub struct Station {
 }
 
 // A new station, and 0 or the refusal of its settings or its number.
-#[derive(Drop)]
+#[derive(Clone, Copy)]
 pub struct Made {
     pub station: Station,
     pub refusal: u8,
 }
 
 // The station afterwards, the answer, and the lost profiles as a mask with its count of ones.
-#[derive(Drop)]
+#[derive(Clone, Copy)]
 pub struct Stepped {
     pub station: Station,
     pub answer: Answer,

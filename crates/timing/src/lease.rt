@@ -4,11 +4,11 @@ ghost use Rattle.timing.specs.Lease.{said_left, left_of};
 
 use crate::reading::Reading;
 
-#[derive(Drop)]
+#[derive(Clone, Copy)]
 pub struct Lease(pub u64);
 
 // The ticks, or the number of the refusal.
-#[derive(Drop)]
+#[derive(Clone, Copy)]
 pub enum Left {
     Ticks(i64),
     Refused(u8),

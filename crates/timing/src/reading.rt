@@ -2,11 +2,11 @@
 ghost use Rattle.std.specs.Prelude.{◌≡◌};
 ghost use Rattle.timing.specs.Reading.{said_widened, widened, reading_refusal, passed};
 
-#[derive(Drop)]
+#[derive(Clone, Copy)]
 pub struct Reading(pub u64);
 
 // The reading, or the number of the refusal.
-#[derive(Drop)]
+#[derive(Clone, Copy)]
 pub enum Widened {
     Reading(u64),
     Refused(u8),

@@ -6,7 +6,7 @@ ghost use Rattle.timing.specs.Phase.{said_phase, phase_after};
 use crate::lease::Lease;
 
 // Nine numbers, whatever they are; `refusal` says whether they are in range.
-#[derive(Drop)]
+#[derive(Clone, Copy)]
 pub struct Settings {
     phase1: u64,
     phase2: u64,
@@ -22,7 +22,7 @@ pub struct Settings {
 }
 
 // A phase of a lease with the ticks until it ends, or out.
-#[derive(Drop)]
+#[derive(Clone, Copy)]
 pub enum Phase {
     First(u64),
     Second(u64),

@@ -1,4 +1,6 @@
 // The writer of the message record.
+#![tactic(auto)]
+
 mod number; // the four bytes of a number
 mod put; // one record
 mod run; // several records, one after another

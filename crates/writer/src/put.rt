@@ -6,7 +6,7 @@ use crate::number::bytes_of;
 use record::{Message, allowed};
 
 // The place after the record, or the number of refusal.
-#[derive(Drop)]
+#[derive(Clone, Copy)]
 pub enum Put {
     Next(usize),
     Refused(u8),

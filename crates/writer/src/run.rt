@@ -6,7 +6,7 @@ use crate::put::{Put, put_at};
 use record::Message;
 
 // One answer and up to a demand for each station; the first `count` of the messages are meant.
-#[derive(Drop)]
+#[derive(Clone, Copy)]
 pub struct Run {
     pub count: usize,
     pub messages: [Message; Run::MOST],
@@ -17,7 +17,7 @@ impl Run {
 }
 
 // How many records were written, the place after them, and why the next was not: 0 if there was none.
-#[derive(Drop)]
+#[derive(Clone, Copy)]
 pub struct Written {
     pub written: usize,
     pub next: usize,
