@@ -26,7 +26,7 @@ pub struct Written {
 
 // A count beyond the array is the array's length.
 fn meant(count: usize) -> usize
-    ensures* { do ⌜ result ≡ min count (← (⟦Run::MOST⟧).entry) ⌝ }
+    ensures { result ≡ min count Run.MOST }
 {
     if count <= Run::MOST { count } else { Run::MOST }
 }
