@@ -1,0 +1,30 @@
+-- `ask` answers by the ask rule.
+use Rattle.profiles.proofs.Asking.{granted_way, in_use_way, wait_way}
+use Rattle.profiles.proofs.Told.{ruled_said}
+use mathlib.Core.Path.{◌≡◌, ap}
+use Prim.Native.Nat.{ℕ}
+use lib.ListN.{length}
+use Rattle.masks.specs.Mask.{set_of}
+use Rattle.masks.proofs.Walk.{mapped_length}
+use Rattle.timing.specs.Limits.{most_stations}
+use borrow.Author.Rules.{rules}
+use Rattle.profiles.proofs.ask.ask.Goals as goal
+
+pub returns-then-conflicts-eq0 : goal.returns-then-conflicts-eq0
+returns-then-conflicts-eq0 c =
+    let a = c.args in
+    ruled_said _ _
+    (granted_way (set_of most_stations a.live) a.number a.now a.me a.asked.0 a.profile _ c.held.ensures _ c.join-wanted.ensures _ c.conflicts-conflicts.ensures c.if-conflicts-eq0.true _ c.with_mode-row.ensures)
+
+pub returns-then-conflicts-kept-ne0 : goal.returns-then-conflicts-kept-ne0
+returns-then-conflicts-kept-ne0 c =
+    let a = c.args in
+    ruled_said _ _
+    (in_use_way (set_of most_stations a.live) a.number a.now a.me a.asked.0 a.profile _ c.held.ensures _ c.join-wanted.ensures _ c.conflicts-conflicts.ensures c.if-conflicts-eq0.false _ c.marks_in-kept.ensures c.if-conflicts-kept-ne0.true _ c.change_in-marks.ensures)
+
+pub returns : goal.returns
+returns c =
+    let a = c.args in
+    let n : length a.profile.row ≡ 16 = search (rules, mapped_length) in
+    ruled_said _ _
+    (wait_way (set_of most_stations a.live) a.number a.now a.me a.asked.0 a.profile _ c.held.ensures _ c.join-wanted.ensures _ c.conflicts-conflicts.ensures c.if-conflicts-eq0.false _ c.marks_in-kept.ensures a.live (ap (λ (n : ℕ). set_of n a.live) n) c.if-conflicts-kept-ne0.false _ c.change_in-marks-2.ensures _ c.count.ensures)
