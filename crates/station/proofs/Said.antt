@@ -5,7 +5,7 @@ use mathlib.Core.Bool.{Bool, true, false}
 use Prim.Native.Nat.{ℕ, zero, suc}
 use Rattle.modes.specs.Modes.{mode}
 use Rattle.station.specs.Event.{Hello, KeepAlive, Ask, Release, Keep}
-use Rattle.station.specs.Effect.{Advice, Answer}
+use Rattle.station.specs.Effect.{Answer}
 use Rattle.station.specs.Station.{Stepped, PhaseAnswer, UseAnswer}
 use Rattle.station.specs.Said.{Said, said, Told, told, SaidPhase, said_phase, SaidUse, said_use}
 use Rattle.station.specs.declared.event.Advice.TheVariants as advice

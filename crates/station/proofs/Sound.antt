@@ -18,7 +18,7 @@ use Rattle.holds.specs.Hold.{no_hold}
 use Rattle.holds.specs.Stage.{is_out}
 use Rattle.room.specs.Refusal.{named_refusal}
 use Rattle.room.specs.Rules.{last_number, profile_for}
-use Rattle.station.specs.Effect.{nacked, sent_at, begun}
+use Rattle.station.specs.Effect.{nacked, sent_at}
 use Rattle.station.specs.Station.{Station, hold_at, mode_of, started_of, unwritten_of, new_station, gone, at_reading, is_over, expire, is_restart, refusal_of, forbids, after, step}
 use Rattle.station.proofs.Ways.{send_free}
 use Rattle.station.proofs.Steps.{stepwise}
