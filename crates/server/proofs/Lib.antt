@@ -15,7 +15,3 @@ pub mod Cases
 pub mod Orderly
 pub mod Reachable
 pub mod Times
-pub mod Element
-pub mod Behind
-pub mod Walking
-pub mod Lending
