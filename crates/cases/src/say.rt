@@ -1,40 +1,41 @@
 // Plain words and numbers on standard output.
-use libc::STDOUT_FILENO;
+use std::io;
+use std::io::Print;
 
-pub(crate) fn text(words: &[u8]) {
-    io::write_all(STDOUT_FILENO, words);
+pub(crate) fn text(rt: &impl Print, words: &[u8]) -> io::Result<()> {
+    rt.write_all(words)
 }
 
-pub(crate) fn number(n: u64) {
-    io::print_decimal(STDOUT_FILENO, n);
+pub(crate) fn number(rt: &impl Print, n: u64) -> io::Result<()> {
+    print!(rt; "{n}")
 }
 
-pub(crate) fn line_end() {
-    text(b"\n");
+pub(crate) fn line_end(rt: &impl Print) -> io::Result<()> {
+    text(rt, b"\n")
 }
 
 // The front of a line: what is asked, and what it should be.
-pub(crate) fn should_be(name: &[u8], n: u64, should: &[u8]) {
-    text(name);
-    number(n);
-    text(b": should be ");
-    text(should);
-    text(b", was ");
+pub(crate) fn should_be(rt: &impl Print, name: &[u8], n: u64, should: &[u8]) -> io::Result<()> {
+    text(rt, name)?;
+    number(rt, n)?;
+    text(rt, b": should be ")?;
+    text(rt, should)?;
+    text(rt, b", was ")
 }
 
-pub(crate) fn refused(n: u8) {
-    text(b"refused ");
-    number(n as u64);
+pub(crate) fn refused(rt: &impl Print, n: u8) -> io::Result<()> {
+    text(rt, b"refused ")?;
+    number(rt, n as u64)
 }
 
 // The cases have no other number of ticks.
-pub(crate) fn signed(n: i64) {
+pub(crate) fn signed(rt: &impl Print, n: i64) -> io::Result<()> {
     if n == 0 {
-        text(b"0");
+        text(rt, b"0")
     } else if n == -1 {
-        text(b"-1");
+        text(rt, b"-1")
     } else {
-        text(b"another number");
+        text(rt, b"another number")
     }
 }
 
@@ -46,20 +47,21 @@ fn glyph(n: u8) -> u8 {
     low + 55
 }
 
-fn digit(n: u8) {
+fn digit(rt: &impl Print, n: u8) -> io::Result<()> {
     let one = [glyph(n)];
-    text(&one);
+    text(rt, &one)
 }
 
 // Eleven bytes in upper case, a space between two.
-pub(crate) fn bytes(buf: [u8; 11]) {
+pub(crate) fn bytes(rt: &impl Print, buf: [u8; 11]) -> io::Result<()> {
     let mut i: usize = 0;
     while i < 11 {
         if 0 < i {
-            text(b" ");
+            text(rt, b" ")?;
         }
-        digit(buf[i] / 16);
-        digit(buf[i]);
+        digit(rt, buf[i] / 16)?;
+        digit(rt, buf[i])?;
         i += 1;
     }
+    Ok(())
 }

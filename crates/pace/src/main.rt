@@ -8,35 +8,55 @@ mod rooms; // streams for a room
 mod serving; // streams for a server
 mod sums; // a sum of answers
 
-use libc::{STDIN_FILENO, STDOUT_FILENO};
+use std::io;
+use std::io::{Print, Read};
 
 // The first kind of a room's streams.
 const ROOMS: u64 = 20;
 
-fn main() {
-    let mut text = io::buffer();
-    let got = io::read_full(STDIN_FILENO, &mut text);
-    lines(&text, got);
+// The most bytes of the input that are taken.
+const BYTES: usize = 4096;
+
+fn main(rt: HostRuntime) -> io::Result<()> {
+    let mut text = [0u8; BYTES];
+    let mut from = rt.stdin();
+    let got = read_full(&mut from, &mut text)?;
+    lines(&rt, &text, got)
+}
+
+// Until the buffer is full or the input ends: how many bytes are there then.
+fn read_full(from: &mut impl Read, buf: &mut [u8]) -> io::Result<usize> {
+    let mut done: usize = 0;
+    while done < buf.len() {
+        let got = from.read(&mut buf[done..])?;
+        if got == 0 {
+            return Ok(done);
+        }
+        done += got;
+    }
+    Ok(done)
 }
 
 // The most lines that are taken.
 const LINES: usize = 64;
 
-fn lines(text: &[u8], got: usize) {
+fn lines(rt: &impl Print, text: &[u8], got: usize) -> io::Result<()> {
     let mut at = input::digit_from(text, 0, got);
     let mut count: usize = 0;
     while count < LINES && at < got {
-        at = line(text, at, got);
+        at = line(rt, text, at, got)?;
         count += 1;
     }
+    Ok(())
 }
 
 // Where the next one begins.
-fn line(text: &[u8], at: usize, got: usize) -> usize {
+fn line(rt: &impl Print, text: &[u8], at: usize, got: usize) -> io::Result<usize> {
     let kind = input::number(text, at, got);
     let events = input::number(text, kind.next, got);
-    say(kind.value, events.value, sum_of(kind.value, events.value));
-    input::digit_from(text, events.next, got)
+    let sum = sum_of(kind.value, events.value);
+    say(rt, kind.value, events.value, sum)?;
+    Ok(input::digit_from(text, events.next, got))
 }
 
 fn sum_of(kind: u64, count: u64) -> u64 {
@@ -46,12 +66,6 @@ fn sum_of(kind: u64, count: u64) -> u64 {
     rooms::sum_of(kind, count)
 }
 
-fn say(kind: u64, count: u64, sum: u64) {
-    io::write_all(STDOUT_FILENO, b"kind ");
-    io::print_decimal(STDOUT_FILENO, kind);
-    io::write_all(STDOUT_FILENO, b" events ");
-    io::print_decimal(STDOUT_FILENO, count);
-    io::write_all(STDOUT_FILENO, b" sum ");
-    io::print_decimal(STDOUT_FILENO, sum);
-    io::write_all(STDOUT_FILENO, b"\n");
+fn say(rt: &impl Print, kind: u64, count: u64, sum: u64) -> io::Result<()> {
+    println!(rt; "kind {kind} events {count} sum {sum}")
 }

@@ -3,7 +3,8 @@ ghost use Rattle.std.specs.Prelude.{◌≤◌};
 
 use crate::print::{flush, has_room};
 use crate::reply::{Reply, put_reply};
-use libc::STDIN_FILENO;
+use std::io;
+use std::io::{Read, Write};
 
 // How far the three buffers are used.
 #[derive(Clone, Copy)]
@@ -74,42 +75,49 @@ fn taken(chunk: &[u8], line: &mut [u8], flow: Flow) -> Flow {
 }
 
 // The next chunk. Where the input ends, so does its last line, with or without a line end.
-fn refilled(chunk: &mut [u8], flow: Flow) -> Flow {
-    let got = libc::read(STDIN_FILENO, &mut *chunk);
-    let end = io::count(got, chunk);
+fn refilled(from: &mut impl Read, chunk: &mut [u8], flow: Flow) -> io::Result<Flow> {
+    let end = from.read(chunk)?;
     let over = end == 0;
-    Flow {
+    Ok(Flow {
         at: 0,
         end,
         count: flow.count,
         whole: over,
         over,
         used: flow.used,
-    }
+    })
 }
 
 // Puts a reply. Where the line after it is there already, it is written out later, with what fits into the buffer.
-pub(crate) fn put_on(out: &mut [u8], used: usize, reply: Reply, more: bool) -> usize {
+pub(crate) fn put_on(
+    to: &mut impl Write,
+    out: &mut [u8],
+    used: usize,
+    reply: Reply,
+    more: bool,
+) -> io::Result<usize> {
     let next = put_reply(&mut *out, used, reply);
     let length = out.len();
     if more && has_room(length, next) {
-        return next;
+        return Ok(next);
     }
-    flush(&*out, next)
+    flush(to, &*out, next)
 }
 
 // Puts the reply to the line before, and goes on with the line. What was put is written out before it waits for more input.
 pub(crate) fn next(
+    from: &mut impl Read,
+    to: &mut impl Write,
     chunk: &mut [u8],
     line: &mut [u8],
     out: &mut [u8],
     flow: Flow,
     reply: Reply,
-) -> Flow {
+) -> io::Result<Flow> {
     let mut after = taken(&*chunk, line, flow);
-    after.used = put_on(out, after.used, reply, after.whole);
+    after.used = put_on(to, out, after.used, reply, after.whole)?;
     if after.whole {
-        return after;
+        return Ok(after);
     }
-    refilled(chunk, after)
+    refilled(from, chunk, after)
 }

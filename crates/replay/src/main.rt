@@ -17,9 +17,16 @@ mod serve; // the lines of the server
 mod told; // what a room answers
 mod words; // words and numbers of a line
 
-fn main() {
-    let mut chunk = io::large_buffer();
+use std::io;
+
+// How much is read and written at once.
+const LARGE: usize = 65_536;
+
+fn main(rt: HostRuntime) -> io::Result<()> {
+    let mut from = rt.stdin();
+    let mut to = rt.stdout();
+    let mut chunk = [0u8; LARGE];
     let mut line = [0u8; 1024];
-    let mut out = io::large_buffer();
-    play::play(&mut chunk, &mut line, &mut out);
+    let mut out = [0u8; LARGE];
+    play::play(&mut from, &mut to, &mut chunk, &mut line, &mut out)
 }

@@ -10,6 +10,8 @@ use crate::serve::served;
 use crate::told::{asked, stepped};
 use server::server::Server;
 use station::station::Station;
+use std::io;
+use std::io::{Read, Write};
 use timing::settings::Settings;
 
 // Before the first settings line no engine is asked anything.
@@ -48,7 +50,13 @@ fn left(turns: u64, over: bool) -> u64
 }
 
 // The server and the rooms are held here and nowhere else, since each further function that holds them copies them.
-pub(crate) fn play(chunk: &mut [u8], line: &mut [u8], out: &mut [u8]) {
+pub(crate) fn play(
+    from: &mut impl Read,
+    to: &mut impl Write,
+    chunk: &mut [u8],
+    line: &mut [u8],
+    out: &mut [u8],
+) -> io::Result<()> {
     let none = unset();
     let mut server = Server::new(none).server;
     let mut rooms = rooms_of(none);
@@ -57,7 +65,15 @@ pub(crate) fn play(chunk: &mut [u8], line: &mut [u8], out: &mut [u8]) {
     let mut reply = Reply::of(NOTHING);
     let mut turns = u64::MAX;
     while turns > 0 {
-        flow = next(&mut *chunk, &mut *line, &mut *out, flow, reply);
+        flow = next(
+            &mut *from,
+            &mut *to,
+            &mut *chunk,
+            &mut *line,
+            &mut *out,
+            flow,
+            reply,
+        )?;
         turns = left(turns, flow.over);
         match meant(&*line, flow.count, flow.whole, ready) {
             Line::Settings(settings) => {
@@ -85,5 +101,6 @@ pub(crate) fn play(chunk: &mut [u8], line: &mut [u8], out: &mut [u8]) {
             Line::Plain(plain) => reply = plainly(&*line, flow.count, plain),
         }
     }
-    put_on(out, flow.used, reply, false);
+    put_on(to, out, flow.used, reply, false)?;
+    Ok(())
 }

@@ -1,6 +1,8 @@
 // The output buffer: what is put goes to a place of it, and the place after it comes back. What does not fit is not put,
 // and the buffer is written out before a line could be too long for it.
-use libc::STDOUT_FILENO;
+use itoa::Buffer;
+use std::io;
+use std::io::Write;
 
 // No answer is longer: a refused `write` line has the most, 64 bytes as pairs of digits.
 const LONGEST: usize = 256;
@@ -25,17 +27,16 @@ pub(crate) fn put(out: &mut [u8], at: usize, text: &[u8]) -> usize {
 
 // A number in decimal.
 pub(crate) fn put_number(out: &mut [u8], at: usize, n: u64) -> usize {
-    let mut digits = [0u8; 20];
-    let count = io::decimal(n, &mut digits);
-    put(out, at, &digits[..count])
+    let mut digits = Buffer::new();
+    put(out, at, digits.format(n).as_bytes())
 }
 
 // Writes out what was put, and answers the place to go on at.
-pub(crate) fn flush(out: &[u8], used: usize) -> usize {
+pub(crate) fn flush(to: &mut impl Write, out: &[u8], used: usize) -> io::Result<usize> {
     if used <= out.len() {
-        io::write_all(STDOUT_FILENO, &out[..used]);
+        to.write_all(&out[..used])?;
     }
-    0
+    Ok(0)
 }
 
 // Whether any reply fits into a buffer of this length.
