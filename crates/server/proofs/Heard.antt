@@ -8,9 +8,8 @@ use lib.Dec.{eqb, ltb}
 use lib.ListN.{length, get_or, set, length-set}
 use lib.Seq.{get_or-set_same, get_or-set_other, set-get_or}
 use borrow.Author.Tests.{eqb-true, eqb-false, lt-ltb}
-use Rattle.masks.specs.Mask.{Set, count}
+use Rattle.masks.specs.Mask.{Set}
 use Rattle.masks.proofs.Sets.{has}
-use Rattle.modes.specs.Modes.{mode}
 use Rattle.server.specs.State.{Status, Live, Mark, Unmarked, Member, Profile, Server, nobody, no_profile, member_at, profile_at, mode_in, mark_in, status_of, last_of, mode_of, mark_of}
 use Rattle.profiles.specs.Sets.{only, live_set, marks_changed, wiped, wipe_mark}
 use Rattle.profiles.specs.Ask.{with_marks}

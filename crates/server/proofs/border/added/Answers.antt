@@ -1,7 +1,6 @@
 -- `added` puts one message more at the end of a run, under the lowest bit.
 use borrow.Author.Tests.{eq-eqb, ne_eqb, lt-ltb, le-ltb}
 use Rattle.server.specs.Run.{added}
-use borrow.Author.Rules.{rules}
 use Rattle.server.proofs.border.added.Goals as goal
 
 pub returns-then-w-ne1 : goal.returns-then-w-ne1

@@ -1,6 +1,5 @@
 -- `empty` is the run of no message.
 use Rattle.server.specs.Run.{run_of}
-use borrow.Author.Rules.{rules}
 use Rattle.server.proofs.border.empty.Goals as goal
 
 pub returns : goal.returns

@@ -4,7 +4,6 @@ use Rattle.requests.specs.declared.Asked.{Asked}
 use Rattle.requests.specs.Request.{request_of}
 use Rattle.requests.proofs.Back.{asked_told}
 use Rattle.server.specs.Border.{said_meant, meant_by, event_of}
-use borrow.Author.Rules.{rules}
 use Rattle.server.proofs.border.event_of.Goals as goal
 
 pub returns-in-For : goal.returns-in-For

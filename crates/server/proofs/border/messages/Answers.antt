@@ -3,7 +3,6 @@ use mathlib.Core.Path.{sym, ap, ◌∙◌}
 use Rattle.server.specs.Event.{Answer}
 use Rattle.server.specs.Border.{sent_for}
 use Rattle.server.specs.Run.{run_of}
-use borrow.Author.Rules.{rules}
 use Rattle.server.proofs.border.messages.Goals as goal
 
 pub returns-in-Done : goal.returns-in-Done

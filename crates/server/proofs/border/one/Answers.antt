@@ -1,6 +1,5 @@
 -- `one` is the run of one message.
 use Rattle.server.specs.Run.{run_of}
-use borrow.Author.Rules.{rules}
 use Rattle.server.proofs.border.one.Goals as goal
 
 pub returns : goal.returns

@@ -5,7 +5,6 @@ use Rattle.record.specs.declared.message.Message.{Message}
 use Rattle.writer.specs.Run.{messages_of, run_answer, run_content}
 use Rattle.server.specs.Border.{sent_for}
 use Rattle.server.proofs.Runs.{run_messages}
-use borrow.Author.Rules.{rules}
 use Rattle.server.proofs.border.put_answer.Goals as goal
 
 pub returns : goal.returns

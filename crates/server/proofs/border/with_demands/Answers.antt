@@ -1,13 +1,8 @@
 -- `with_demands` puts a demand to each station of a set after the first message, in station order.
-use Prim.Native.Nat.{◌≤◌, ◌-◌}
-use mathlib.Core.Path.{◌≡◌, refl}
-use mathlib.Core.List.{[], ◌∷◌}
+use mathlib.Core.List.{◌∷◌}
 use native.Mathlib.Omega.{arith}
-use borrow.Author.Rules.{rules}
-use Rattle.record.specs.declared.message.Message.{Message}
 use Rattle.server.specs.Border.{demands_from}
-use Rattle.server.specs.Run.{run_of}
-use Rattle.server.proofs.Runs.{Turned, turned, finished}
+use Rattle.server.proofs.Runs.{turned}
 use Rattle.server.proofs.border.with_demands.Goals as goal
 
 pub loop-j-preserved : goal.loop-j-preserved

@@ -1,13 +1,11 @@
 -- `with_demands` puts a demand to each station of a set after the first message, in station order.
 use Prim.Native.Nat.{◌≤◌, ◌-◌}
-use mathlib.Core.Path.{◌≡◌, refl}
+use mathlib.Core.Path.{◌≡◌}
 use mathlib.Core.List.{[], ◌∷◌}
-use native.Mathlib.Omega.{arith}
-use borrow.Author.Rules.{rules}
 use Rattle.record.specs.declared.message.Message.{Message}
 use Rattle.server.specs.Border.{demands_from}
 use Rattle.server.specs.Run.{run_of}
-use Rattle.server.proofs.Runs.{Turned, turned, finished}
+use Rattle.server.proofs.Runs.{Turned}
 use Rattle.server.proofs.border.with_demands.Given as goal
 
 abbrev pub invariant-loop-j : goal.invariant-loop-j

@@ -1,6 +1,5 @@
 -- `Server::new` makes the empty server, with the refusal of its settings.
 use Rattle.server.specs.State.{new_server}
-use borrow.Author.Rules.{rules}
 use Rattle.server.proofs.server.Server.new.Goals as goal
 
 pub returns : goal.returns
