@@ -12,7 +12,7 @@ use lib.Dec.{ltb}
 use lib.ListN.{get_or, replicate}
 use borrow.Author.Tests.{ltb-true}
 use Rattle.record.specs.declared.message.Message.{Message}
-use Rattle.modes.specs.Modes.{mode, covers, goes_with, is_mode}
+use Rattle.modes.specs.Modes.{covers, goes_with, is_mode}
 use Rattle.modes.proofs.Laws.{both_covered_go}
 use Rattle.timing.specs.declared.settings.Settings.{Settings}
 use Rattle.timing.specs.Settings.{lease, in_range, Rate}

@@ -7,7 +7,7 @@ use Rattle.timing.specs.declared.settings.Settings.{Settings}
 use Rattle.timing.specs.Settings.{settings, wait}
 use Rattle.members.specs.declared.member.Status.TheVariants.{Unknown, TimingOut}
 use Rattle.server.specs.State.{status_of, mode_of as grantedTo}
-use Rattle.holds.specs.declared.stage.Standing.TheVariants.{Out, Closing}
+use Rattle.holds.specs.declared.stage.Standing.TheVariants.{Closing}
 use Rattle.requests.specs.declared.Request.TheVariants.{Hello, KeepAlive, Ask, Release}
 use Rattle.room.specs.declared.event.Event.TheVariants.{Send, Begin, Edit, End, WriteOut, Demand}
 use Rattle.station.specs.declared.event.Advice.TheVariants as advice
