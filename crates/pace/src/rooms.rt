@@ -15,7 +15,8 @@ const BEGIN: u64 = 22;
 const EDIT: u64 = 23;
 
 const DEMAND: u64 = 24;
-// 25 is refused by 3.
+// Refused by 3.
+const REFUSED: u64 = 25;
 
 const PHASE: u64 = 26;
 

@@ -7,7 +7,9 @@ use modes::Mode;
 use server::event::{Answer, Event, Request};
 use server::server::{Server, step_in};
 
-// Kinds: 0 is a tick with nothing to do.
+// Kinds.
+const TICK: u64 = 0;
+
 const KEEP_ALIVE: u64 = 1;
 
 const HELLO: u64 = 2;
