@@ -7,7 +7,7 @@ use Rattle.timing.specs.Settings.{Settings, lease, in_range, wait, Rate}
 use Rattle.timing.proofs.Ranges.{ranges}
 
 module _ (z : Settings) (good : in_range z ≡ true) where
-  -- W-as-D is at least L·(D+N) + D
+  -- W·D is at least L·(D+N) + D
   pub wait_enough : lease z * (z.d + z.n) + z.d ≤ wait z * z.d
   unfolding wait
   wait_enough =
