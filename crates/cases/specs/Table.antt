@@ -66,7 +66,7 @@ abbrev pub asked : List Occurs
 asked =
     opening ++ (at 3 (Says 1 2 (Ask 0 (mode R))) ∷ at 4 Tick ∷ at 5 Tick ∷ at 6 Tick ∷ at 7 Tick ∷ [])
 
--- ".. Tick 8 .. Its keep_alive at 9"
+-- ".. Tick 8 .. Its keep-alive at 9"
 abbrev pub late : List Occurs
 late = asked ++ (at 8 Tick ∷ at 9 (Says 0 3 KeepAlive) ∷ [])
 

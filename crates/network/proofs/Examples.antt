@@ -16,19 +16,19 @@ use Rattle.profiles.specs.Sets.{wiped, conflicts}
 use Rattle.profiles.specs.Ask.{ask_rule}
 use Rattle.hearing.specs.Hear as hear
 use Rattle.server.specs.Tick as tick
-use Rattle.judging.specs.Refusal as server-refusal
+use Rattle.judging.specs.Refusal as server_refusal
 use Rattle.server.specs.Step as server
-use Rattle.server.specs.Border as server-border
+use Rattle.server.specs.Border as server_border
 use Rattle.server.specs.Border.{sent_for}
 use Rattle.requests.specs.Request as requests
 use Rattle.modes.specs.Modes.{R}
 use Rattle.holds.specs.Hold.{no_holds}
 use Rattle.holds.specs.Stage.{phase_at}
-use Rattle.room.specs.Refusal as room-refusal
+use Rattle.room.specs.Refusal as room_refusal
 use Rattle.room.specs.Rules as rules
 use Rattle.station.specs.Effect as effect
 use Rattle.station.specs.Station as room
-use Rattle.station.specs.Border as room-border
+use Rattle.station.specs.Border as room_border
 use Rattle.modes.specs.Modes as modes
 use Rattle.network.specs.Picture.{Happening, ticks, gets, Moment, world_at_first, next, run}
 use Rattle.network.specs.Premises.{Clocks, Happens, Permitted, begins, goes_on}
@@ -37,7 +37,7 @@ use Rattle.network.specs.Examples.{small, at, after, demand, greeted, holding, r
 
 -- names all that a step computes with, so that one word opens it
 engines : ℕ
-unfolding run next world_at_first wait new_server wiped conflicts ask_rule phase_after no_holds phase_at settings.lengths_good settings.rate_good settings.counts_good hear.heed hear.welcome hear.by_status hear.if_new hear.hear tick.free tick.started_set tick.start server-refusal.refusal server.message server.tick server.step server-border.event_of server-border.sent_for room-refusal.refusal room-refusal.phase_refusal room-refusal.use_refusal rules.send_refusal rules.begin_refusal rules.edit_refusal rules.end_refusal rules.write_out_refusal rules.demand_refusal rules.fits rules.ack_forbids rules.nack_forbids effect.advised room.new_station room.ended_if room.after room.if_allowed room.if_good room.step room.phase_asked room.may_use room-border.event_of requests.request_of requests.message_of room-border.sent_by modes.is_mode modes.goes_with modes.covers modes.join modes.writes
+unfolding run next world_at_first wait new_server wiped conflicts ask_rule phase_after no_holds phase_at settings.lengths_good settings.rate_good settings.counts_good hear.heed hear.welcome hear.by_status hear.if_new hear.hear tick.free tick.started_set tick.start server_refusal.refusal server.message server.tick server.step server_border.event_of server_border.sent_for room_refusal.refusal room_refusal.phase_refusal room_refusal.use_refusal rules.send_refusal rules.begin_refusal rules.edit_refusal rules.end_refusal rules.write_out_refusal rules.demand_refusal rules.fits rules.ack_forbids rules.nack_forbids effect.advised room.new_station room.ended_if room.after room.if_allowed room.if_good room.step room.phase_asked room.may_use room_border.event_of requests.request_of requests.message_of room_border.sent_by modes.is_mode modes.goes_with modes.covers modes.join modes.writes
 engines = 0
 
 -- a history that is permitted, and what is known of the clocks at each of its moments

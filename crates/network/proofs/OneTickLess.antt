@@ -35,7 +35,7 @@ use Rattle.profiles.specs.Ask.{ask_rule}
 use Rattle.hearing.specs.Hear.{heed, welcome, by_status}
 use Rattle.server.specs.Tick.{free, started_set, start}
 use Rattle.judging.specs.Refusal.{event_refusal}
-use Rattle.server.specs.Step.{tick, step as serverStep}
+use Rattle.server.specs.Step.{tick, step as server_step}
 use Rattle.server.specs.Border.{sent_for}
 use Rattle.server.proofs.Sent.{heard_back_lem}
 use Rattle.record.specs.Message.{message}
@@ -58,8 +58,8 @@ use Rattle.requests.specs.Request.{request_refusal, message_of}
 use Rattle.room.specs.Refusal.{ack_refusal}
 use Rattle.room.specs.Rules.{last_number, send_refusal, fits, ack_profile, ack_forbids}
 use Rattle.station.specs.Effect.{holds_sent, holds_acked}
-use Rattle.station.specs.Station.{new_station, is_over, forbids, after, stepped, step as roomStep, may_use, mode_of}
-use Rattle.station.specs.Border.{sent_by, event_of as roomEvent}
+use Rattle.station.specs.Station.{new_station, is_over, forbids, after, stepped, step as room_step, may_use, mode_of}
+use Rattle.station.specs.Border.{sent_by, event_of as room_event}
 use Rattle.network.specs.Picture.{world_at_first, Moment, Happening, nothing, run}
 use Rattle.network.specs.Premises.{Clocks, begins}
 use Rattle.network.specs.Claims.{Breach, OneTickLess}
@@ -131,13 +131,13 @@ module _ (z : Settings) (good : in_range z ≡ true) (two : 2 ≤ z.stations) (w
     same : (l : List Hold) → holds_sent l q ≡ l
     sent : (i k : ℕ) → sent_by i (answer.Sent k q) ≡ message_of i k q ∷ []
     answered : (i k : ℕ) → sent_for (message_of i k q).station (message_of i k q).number A ≡ back i k ∷ []
-    told : (i k : ℕ) → roomEvent (back i k) ≡ to_room.For (Acked i k a)
+    told : (i k : ℕ) → room_event (back i k) ≡ to_room.For (Acked i k a)
     named_back : ack_refusal z.profiles a ≡ 0
     fitting : (i c start k : ℕ) (σ : Standing) (wt : Waiting) → fits q (mode_of (rm i c σ start k wt x) (ack_profile a)) a ≡ true
     gained : holds_acked (hs x) a ≡ hs x'
 
   hello : (x : ℕ) → Exchange Hello Done says.Done x x
-  unfolding message_of sent_for roomEvent fits sent_by
+  unfolding message_of sent_for room_event fits sent_by
   hello x =
       record {
         back = λ i k. message 6 i k 255 0 0;
@@ -152,7 +152,7 @@ module _ (z : Settings) (good : in_range z ≡ true) (two : 2 ≤ z.stations) (w
       }
 
   alive : (x : ℕ) → Exchange KeepAlive Done says.Done x x
-  unfolding message_of sent_for roomEvent fits sent_by
+  unfolding message_of sent_for room_event fits sent_by
   alive x =
       record {
         back = λ i k. message 6 i k 255 0 0;
@@ -167,7 +167,7 @@ module _ (z : Settings) (good : in_range z ≡ true) (two : 2 ≤ z.stations) (w
       }
 
   ask : Exchange (Ask 0 (mode X)) (Granted 0 (mode X)) (says.Granted 0 (mode X)) 0 X
-  unfolding message_of sent_for roomEvent fits sent_by is_mode covers
+  unfolding message_of sent_for room_event fits sent_by is_mode covers
   ask =
       record {
         back = λ i k. message 6 i k 0 X 1;
@@ -185,7 +185,7 @@ module _ (z : Settings) (good : in_range z ≡ true) (two : 2 ≤ z.stations) (w
   sends : (i c₀ : ℕ) (σ : Standing) (start last : ℕ) (wt : Waiting) (x now : ℕ) (q : Request) → i < z.stations → now ≤ reading_limit → c₀ ≤ now →
       request_refusal z.profiles q ≡ 0 → ((l : List Hold) → holds_sent l q ≡ l) →
       is_over (rm i c₀ σ start last wt x) now ≡ false → forbids (rm i now σ start last wt x) (Send q) ≡ 0 →
-      roomStep (rm i c₀ σ start last wt x) now (Send q) ≡ stepped (rm i now σ start (last + 1) (Sent q now) x) (answer.Sent (last + 1) q) 0 0
+      room_step (rm i c₀ σ start last wt x) now (Send q) ≡ stepped (rm i now σ start (last + 1) (Sent q now) x) (answer.Sent (last + 1) q) 0 0
   unfolding after
   sends i c₀ σ start last wt x now q here top on named same over may =
       room.step_on (rm i c₀ σ start last wt x) now (Send q) (room.free z good i c₀ now (Send q) here refl named top on) over may
@@ -195,7 +195,7 @@ module _ (z : Settings) (good : in_range z ≡ true) (two : 2 ≤ z.stations) (w
   takes : (i : ℕ) (σ : Standing) (start k x x' now : ℕ) (q : Request) (a : Ack) → i < z.stations → now ≤ reading_limit →
       ack_refusal z.profiles a ≡ 0 → fits q (mode_of (rm i now σ start k (Sent q now) x) (ack_profile a)) a ≡ true → holds_acked (hs x) a ≡ hs x' →
       is_over (rm i now σ start k (Sent q now) x) now ≡ false →
-      roomStep (rm i now σ start k (Sent q now) x) now (Acked i k a) ≡ stepped (rm i now Open now k Nothing x') answer.Done 0 0
+      room_step (rm i now σ start k (Sent q now) x) now (Acked i k a) ≡ stepped (rm i now Open now k Nothing x') answer.Done 0 0
   unfolding after ack_forbids
   takes i σ start k x x' now q a here top named fit gained over =
       room.step_on (rm i now σ start k (Sent q now) x) now (Acked i k a) (room.free z good i now now (Acked i k a) here refl named top (le_refl now)) over may
@@ -211,12 +211,12 @@ module _ (z : Settings) (good : in_range z ≡ true) (two : 2 ≤ z.stations) (w
     turn : {s : Server} {rooms : ℕ → Station} {q : Request} {a : Ack} {A : ServerAnswer} {x x' : ℕ} → Story z w Q s rooms → Exchange q a A x x' →
         (i c₀ : ℕ) (σ : Standing) (start last : ℕ) (wt : Waiting) (s' : Server) → i < z.stations → c₀ ≤ cs i → rooms i ≡ rm i c₀ σ start last wt x →
         is_over (rm i c₀ σ start last wt x) (cs i) ≡ false → forbids (rm i (cs i) σ start last wt x) (Send q) ≡ 0 →
-        serverStep w s c (server.Message i (last + 1) q) ≡ record { server = s'; answer = A } →
+        server_step w s c (server.Message i (last + 1) q) ≡ record { server = s'; answer = A } →
         Story z w Q s' (put i (rm i (cs i) Open (cs i) (last + 1) Nothing x') rooms)
     turn {s} {rooms} {q} {a} {A} {x} {x'} S E i c₀ σ start last wt s' here on is over may heard =
         exchange z w Q c cs mine clocks S i here q (message_of i (last + 1) q)
         (stepped (rm i (cs i) σ start (last + 1) (Sent q (cs i)) x) (answer.Sent (last + 1) q) 0 0)
-        (ap (λ (v : Station). roomStep v (cs i) (Send q)) is ∙ sends i c₀ σ start last wt x (cs i) q here (tops i) on E.named E.same over may)
+        (ap (λ (v : Station). room_step v (cs i) (Send q)) is ∙ sends i c₀ σ start last wt x (cs i) q here (tops i) on E.named E.same over may)
         (E.sent i (last + 1))
         (server.Message i (last + 1) q) (record { server = s'; answer = A }) (E.back i (last + 1)) []
         (heard_back_lem i (last + 1) q) heard (E.answered i (last + 1))
@@ -225,7 +225,7 @@ module _ (z : Settings) (good : in_range z ≡ true) (two : 2 ≤ z.stations) (w
         (takes i σ start (last + 1) x x' (cs i) q a here (tops i) E.named_back (E.fitting i (cs i) start (last + 1) σ (Sent q (cs i))) E.gained over)
 
   -- the server's answers in the story
-  hello₀ : serverStep w (srv 0 0 0 Unknown Unknown 0 0 Unmarked) 0 (server.Message 0 1 Hello)
+  hello₀ : server_step w (srv 0 0 0 Unknown Unknown 0 0 Unmarked) 0 (server.Message 0 1 Hello)
       ≡ record { server = srv 0 1 0 Live Unknown 0 0 Unmarked; answer = says.Done }
   unfolding by_status welcome wiped
   hello₀ =
@@ -240,14 +240,14 @@ module _ (z : Settings) (good : in_range z ≡ true) (two : 2 ≤ z.stations) (w
   unfolding is_mode
   named₁ k = rw (lt-leb z.stations 1 here₁, lt-leb z.profiles 0 any₀)
 
-  ask₀ : serverStep w (srv 0 1 0 Live Unknown 0 0 Unmarked) 0 (server.Message 0 2 (Ask 0 (mode X)))
+  ask₀ : server_step w (srv 0 1 0 Live Unknown 0 0 Unmarked) 0 (server.Message 0 2 (Ask 0 (mode X)))
       ≡ record { server = srv 0 2 0 Live Unknown X 0 Unmarked; answer = says.Granted 0 (mode X) }
   unfolding by_status heed ask_rule conflicts join goes_with
   ask₀ =
       served.heard w (srv 0 1 0 Live Unknown 0 0 Unmarked) 0 0 2 (Ask 0 (mode X))
       (served.free z good 0 0 (server.Message 0 2 (Ask 0 (mode X))) (named₀ 2) zero-le zero-le) (lit< tt)
 
-  hello₁ : serverStep w (srv 0 2 0 Live Unknown X 0 Unmarked) 0 (server.Message 1 1 Hello)
+  hello₁ : server_step w (srv 0 2 0 Live Unknown X 0 Unmarked) 0 (server.Message 1 1 Hello)
       ≡ record { server = srv 0 2 1 Live Live X 0 Unmarked; answer = says.Done }
   unfolding by_status welcome wiped
   hello₁ =
@@ -255,14 +255,14 @@ module _ (z : Settings) (good : in_range z ≡ true) (two : 2 ≤ z.stations) (w
       (served.free z good 0 0 (server.Message 1 1 Hello) (rw (lt-leb z.stations 1 here₁)) zero-le zero-le) (lit< tt)
 
   -- station 0 stands in the way, and is demanded
-  ask₁ : serverStep w (srv 0 2 1 Live Live X 0 Unmarked) 0 (server.Message 1 2 (Ask 0 (mode X)))
+  ask₁ : server_step w (srv 0 2 1 Live Live X 0 Unmarked) 0 (server.Message 1 2 (Ask 0 (mode X)))
       ≡ record { server = srv 0 2 2 Live Live X 0 (Demanded 0); answer = says.Wait 0 (mode X) 1 1 }
   unfolding by_status heed ask_rule conflicts join goes_with
   ask₁ =
       served.heard w (srv 0 2 1 Live Live X 0 Unmarked) 0 1 2 (Ask 0 (mode X))
       (served.free z good 0 0 (server.Message 1 2 (Ask 0 (mode X))) (named₁ 2) zero-le zero-le) (lit< tt)
 
-  alive₀ : (c₀ c k : ℕ) → c₀ ≤ c → c ≤ reading_limit → serverStep w (srv c₀ k 2 Live Live X 0 (Demanded 0)) c (server.Message 0 (k + 1) KeepAlive)
+  alive₀ : (c₀ c k : ℕ) → c₀ ≤ c → c ≤ reading_limit → server_step w (srv c₀ k 2 Live Live X 0 (Demanded 0)) c (server.Message 0 (k + 1) KeepAlive)
       ≡ record { server = srv c (k + 1) 2 Live Live X 0 (Demanded 0); answer = says.Done }
   unfolding by_status heed
   alive₀ c₀ c k on top =
@@ -280,14 +280,14 @@ module _ (z : Settings) (good : in_range z ≡ true) (two : 2 ≤ z.stations) (w
   freed₀ k = rw (le-leb (z.r + w) (z.r + w) (le_refl (z.r + w)))
 
   module _ (c : ℕ) (top : c ≤ reading_limit) (k : ℕ) where
-    again₁ : serverStep w (srv c k 2 Unknown Live 0 0 Unmarked) c (server.Message 1 3 Hello)
+    again₁ : server_step w (srv c k 2 Unknown Live 0 0 Unmarked) c (server.Message 1 3 Hello)
         ≡ record { server = srv c k 3 Unknown Live 0 0 Unmarked; answer = says.Done }
     unfolding by_status heed wiped
     again₁ =
         served.heard w (srv c k 2 Unknown Live 0 0 Unmarked) c 1 3 Hello
         (served.free z good c c (server.Message 1 3 Hello) (rw (lt-leb z.stations 1 here₁)) top (le_refl c)) (lit< tt)
 
-    grant₁ : serverStep w (srv c k 3 Unknown Live 0 0 Unmarked) c (server.Message 1 4 (Ask 0 (mode X)))
+    grant₁ : server_step w (srv c k 3 Unknown Live 0 0 Unmarked) c (server.Message 1 4 (Ask 0 (mode X)))
         ≡ record { server = srv c k 4 Unknown Live 0 X Unmarked; answer = says.Granted 0 (mode X) }
     unfolding by_status heed ask_rule conflicts join goes_with
     grant₁ =

@@ -19,7 +19,7 @@ use Rattle.timing.specs.Settings.{lease, in_range, Rate}
 use Rattle.timing.proofs.Ranges.{ranges}
 use Rattle.timing.proofs.Wait.{rate_sum, wait_enough, wait_sharp}
 use Rattle.members.specs.declared.member.Status.TheVariants.{Unknown}
-use Rattle.server.specs.State.{new_server, nobody, status_of, mode_of as serverMode}
+use Rattle.server.specs.State.{new_server, nobody, status_of, mode_of as server_mode}
 use Rattle.server.proofs.Reachable.{new_unknown, new_nothing, sound_new}
 use Rattle.station.specs.declared.station.Station.{Station}
 use Rattle.station.specs.declared.event.UseAnswer.TheVariants.{Yes}
@@ -103,7 +103,7 @@ none_is_no_mode n e h = false≢true (rw e at h)
 
 -- what the server has then covers what the room uses
 covered : (z : Settings) (w : World) (h : List Moment) (cs : ℕ → ℕ) → Sound z w h cs → (i p : ℕ) → i < z.stations → may_use (w.rooms i) (cs i) p ≡ Yes →
-    covers (serverMode w.server i p) (mode_of (w.rooms i) p) ≡ true
+    covers (server_mode w.server i p) (mode_of (w.rooms i) p) ≡ true
 covered z w h cs I i p b u = by_test (is_out (w.rooms i).standing) refl
   where
     J : Inv (lease z) (slot_of w.server i) (seat_of (w.rooms i)) (sent_up w.up i) (ack_down w.down i) (past h i) (cs i)
@@ -118,7 +118,7 @@ covered z w h cs I i p b u = by_test (is_out (w.rooms i).standing) refl
         let l : lease_of (w.rooms i) ≡ lease z = ap (λ (y : Settings). lease y) (I.own i b).settings in
         omega arith
 
-    by_test : (o : Bool) → is_out (w.rooms i).standing ≡ o → covers (serverMode w.server i p) (mode_of (w.rooms i) p) ≡ true
+    by_test : (o : Bool) → is_out (w.rooms i).standing ≡ o → covers (server_mode w.server i p) (mode_of (w.rooms i) p) ≡ true
     by_test true e = absurd (none_is_no_mode (mode_of (w.rooms i) p) (J.empty e p) both.0)
     by_test false e = J.cover e (held_known (past h i) (status_of w.server i) (w.rooms i).start (J.lease e lasts)) p
 
@@ -127,8 +127,8 @@ clock_of [] i = 0
 clock_of (t ∷ h) i = t.rooms i
 
 -- each moment of a history keeps the clocks' premises against those before it
-abbrev Kept-time : Settings → Moment → List Moment → Type 0
-Kept-time z t h = (old : Moment) (i : ℕ) → Memᴰ old h → i < z.stations → Clocks z old t i
+abbrev KeptTime : Settings → Moment → List Moment → Type 0
+KeptTime z t h = (old : Moment) (i : ℕ) → Memᴰ old h → i < z.stations → Clocks z old t i
 
 -- the wait W outlasts every lease, by the rate rule
 module _ (z : Settings) (good : in_range z ≡ true) (W : ℕ) (enough : lease z * (z.d + z.n) + z.d ≤ W * z.d) where
@@ -139,19 +139,19 @@ module _ (z : Settings) (good : in_range z ≡ true) (W : ℕ) (enough : lease z
       omega arith
 
   -- time passes
-  passes : (t : Moment) (h : List Moment) (w : World) → Kept-time z t h → Sound z w h (clock_of h) → Sound z w (t ∷ h) t.rooms
+  passes : (t : Moment) (h : List Moment) (w : World) → KeptTime z t h → Sound z w h (clock_of h) → Sound z w (t ∷ h) t.rooms
   passes t h w clocks I = record {
     pair = λ i b. later (lease z) (I.pair i b) (on h i b clocks) (λ τ y x. (x.0, Memᴰ.tail x.1, x.2, x.3)) (λ m x. x) (λ m x. x);
     own = I.own;
     server = I.server;
   }
     where
-      on : (h : List Moment) (i : ℕ) → i < z.stations → Kept-time z t h → clock_of h i ≤ t.rooms i
+      on : (h : List Moment) (i : ℕ) → i < z.stations → KeptTime z t h → clock_of h i ≤ t.rooms i
       on [] i b clocks = zero-le
       on (old ∷ h) i b clocks = (clocks old i (Memᴰ.head refl) b).room_on
 
   -- what the server has waited through is over
-  over : (t : Moment) (h : List Moment) → Kept-time z t h → (i τ y : ℕ) → i < z.stations → past (t ∷ h) i τ y → τ + W ≤ t.server → y + lease z ≤ t.rooms i
+  over : (t : Moment) (h : List Moment) → KeptTime z t h → (i τ y : ℕ) → i < z.stations → past (t ∷ h) i τ y → τ + W ≤ t.server → y + lease z ≤ t.rooms i
   over t h clocks i τ y here x late = by_place (Memᴰ.cases_cons x.1)
     where
       by_place : (x.0 ≡ t) ⊎ Memᴰ x.0 h → y + lease z ≤ t.rooms i
@@ -166,7 +166,7 @@ module _ (z : Settings) (good : in_range z ≡ true) (W : ℕ) (enough : lease z
           let ran = outlasts (t.rooms i - x.0.rooms i) (t.server - x.0.server) waited rate in
           omega (arith, x.3, k.room_on)
 
-  steps : (t : Moment) (h : List Moment) (w : World) → Kept-time z t h → Sound z w (t ∷ h) t.rooms → (e : Happening) → Happens z w e →
+  steps : (t : Moment) (h : List Moment) (w : World) → KeptTime z t h → Sound z w (t ∷ h) t.rooms → (e : Happening) → Happens z w e →
       Sound z (next W w t e) (t ∷ h) t.rooms
   unfolding next
   steps t h w clocks I nothing k = I
@@ -187,7 +187,7 @@ module _ (z : Settings) (good : in_range z ≡ true) (W : ℕ) (enough : lease z
   safe_with t h P i j p bi bj ne ui uj =
       let I = sound P in
       let w = run z W (t ∷ h) in
-      both_covered_go (serverMode w.server i p) (mode_of (w.rooms i) p) (serverMode w.server j p) (mode_of (w.rooms j) p)
+      both_covered_go (server_mode w.server i p) (mode_of (w.rooms i) p) (server_mode w.server j p) (mode_of (w.rooms j) p)
       (covered z w (t ∷ h) t.rooms I i p bi ui) (covered z w (t ∷ h) t.rooms I j p bj uj)
       (I.server.tables.apart i j p ne)
 

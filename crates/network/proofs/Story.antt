@@ -15,9 +15,9 @@ use Rattle.server.specs.declared.server.Served.{Served}
 use Rattle.judging.specs.declared.event.Event.{Event as ServerEvent}
 use Rattle.judging.specs.declared.event.Event.TheVariants as server
 use Rattle.server.specs.declared.border.Meant.{Meant as ToServer}
-use Rattle.server.specs.declared.border.Meant.TheVariants as to-server
-use Rattle.server.specs.Step.{step as serverStep}
-use Rattle.server.specs.Border.{sent_for, event_of as serverEvent}
+use Rattle.server.specs.declared.border.Meant.TheVariants as to_server
+use Rattle.server.specs.Step.{step as server_step}
+use Rattle.server.specs.Border.{sent_for, event_of as server_event}
 use Rattle.station.specs.declared.station.Station.{Station}
 use Rattle.station.specs.declared.station.Stepped.{Stepped}
 use Rattle.room.specs.declared.event.Event.{Event as RoomEvent}
@@ -25,8 +25,8 @@ use Rattle.room.specs.declared.event.Event.TheVariants.{Send}
 use Rattle.requests.specs.declared.Request.{Request}
 use Rattle.station.specs.declared.border.Meant.{Meant as ToRoom}
 use Rattle.station.specs.declared.border.Meant.TheVariants as to_room
-use Rattle.station.specs.Station.{step as roomStep}
-use Rattle.station.specs.Border.{sent_by, event_of as roomEvent}
+use Rattle.station.specs.Station.{step as room_step}
+use Rattle.station.specs.Border.{sent_by, event_of as room_event}
 use Rattle.network.specs.Picture.{World, Moment, Happening, nothing, ticks, hears, gets, does, with_server, with_room, hearing, getting, next, run}
 use Rattle.network.specs.Premises.{Clocks, is_own, Happens, Permitted, goes_on}
 
@@ -93,36 +93,36 @@ module _ (z : Settings) (w : ℕ) where
         cases n (inr a) = S.each n a
 
     -- a room does something
-    pub done : {x : World} → Ends Q x → (i : ℕ) (e : RoomEvent) → i < z.stations → is_own e ≡ true → (r : Station) → x.rooms i ≡ r → (X : Stepped) → roomStep r (cs i) e ≡ X → Ends Q (with_room x i X)
+    pub done : {x : World} → Ends Q x → (i : ℕ) (e : RoomEvent) → i < z.stations → is_own e ≡ true → (r : Station) → x.rooms i ≡ r → (X : Stepped) → room_step r (cs i) e ≡ X → Ends Q (with_room x i X)
     unfolding next
     done {x} S i e here own r is X q =
-        go S (does i e) (here, own) (ap (λ (v : Station). with_room x i (roomStep v (cs i) e)) is ∙ ap (λ (v : Stepped). with_room x i v) q)
+        go S (does i e) (here, own) (ap (λ (v : Station). with_room x i (room_step v (cs i) e)) is ∙ ap (λ (v : Stepped). with_room x i v) q)
 
     -- a message reaches the server
-    pub hear : {x : World} → Ends Q x → (m : Message) → Memᴰ m x.up → (s : Server) → x.server ≡ s → (e : ServerEvent) → serverEvent m ≡ to-server.For e →
-        (Y : Served) → serverStep w s c e ≡ Y → Ends Q (with_server x Y (sent_for m.station m.number Y.answer))
+    pub hear : {x : World} → Ends Q x → (m : Message) → Memᴰ m x.up → (s : Server) → x.server ≡ s → (e : ServerEvent) → server_event m ≡ to_server.For e →
+        (Y : Served) → server_step w s c e ≡ Y → Ends Q (with_server x Y (sent_for m.station m.number Y.answer))
     unfolding next
     hear {x} S m there s is e meant Y q =
         go S (hears m) there
         (ap (λ (v : ToServer). hearing w x c m v) meant
-        ∙ ap (λ (v : Server). with_server x (serverStep w v c e) (sent_for m.station m.number (serverStep w v c e).answer)) is
+        ∙ ap (λ (v : Server). with_server x (server_step w v c e) (sent_for m.station m.number (server_step w v c e).answer)) is
         ∙ ap (λ (v : Served). with_server x v (sent_for m.station m.number v.answer)) q)
 
     -- a message reaches a room
-    pub get : {x : World} → Ends Q x → (i : ℕ) (m : Message) → i < z.stations → Memᴰ m x.down → (r : Station) → x.rooms i ≡ r → (e : RoomEvent) → roomEvent m ≡ to_room.For e →
-        (X : Stepped) → roomStep r (cs i) e ≡ X → Ends Q (with_room x i X)
+    pub get : {x : World} → Ends Q x → (i : ℕ) (m : Message) → i < z.stations → Memᴰ m x.down → (r : Station) → x.rooms i ≡ r → (e : RoomEvent) → room_event m ≡ to_room.For e →
+        (X : Stepped) → room_step r (cs i) e ≡ X → Ends Q (with_room x i X)
     unfolding next
     get {x} S i m here there r is e meant X q =
         go S (gets i m) (here, there)
         (ap (λ (v : ToRoom). getting x i (cs i) v) meant
-        ∙ ap (λ (v : Station). with_room x i (roomStep v (cs i) e)) is
+        ∙ ap (λ (v : Station). with_room x i (room_step v (cs i) e)) is
         ∙ ap (λ (v : Stepped). with_room x i v) q)
 
     -- one message there, and its ACK back, with no time between
     pub exchange : {s : Server} {rooms : ℕ → Station} → Story Q s rooms → (i : ℕ) → i < z.stations → (q : Request) (m : Message) (X : Stepped) →
-        roomStep (rooms i) (cs i) (Send q) ≡ X → sent_by X.station.number X.answer ≡ m ∷ [] →
-        (e : ServerEvent) (Y : Served) (m' : Message) (ds : List Message) → serverEvent m ≡ to-server.For e → serverStep w s c e ≡ Y → sent_for m.station m.number Y.answer ≡ m' ∷ ds →
-        (e' : RoomEvent) (X' : Stepped) → roomEvent m' ≡ to_room.For e' → roomStep X.station (cs i) e' ≡ X' →
+        room_step (rooms i) (cs i) (Send q) ≡ X → sent_by X.station.number X.answer ≡ m ∷ [] →
+        (e : ServerEvent) (Y : Served) (m' : Message) (ds : List Message) → server_event m ≡ to_server.For e → server_step w s c e ≡ Y → sent_for m.station m.number Y.answer ≡ m' ∷ ds →
+        (e' : RoomEvent) (X' : Stepped) → room_event m' ≡ to_room.For e' → room_step X.station (cs i) e' ≡ X' →
         Story Q Y.server (put i X'.station rooms)
     exchange {s} {rooms} S i here q m X x-is m-is e Y m' ds e-is y-is m'-is e' X' e'-is x'-is =
         let E₁ = done S.history i (Send q) here refl (rooms i) (S.rooms_are i) X x-is in
@@ -137,8 +137,8 @@ module _ (z : Settings) (w : ℕ) where
 
     -- a message there, and its answer left to lie
     pub said : {s : Server} {rooms : ℕ → Station} → Story Q s rooms → (i : ℕ) → i < z.stations → (q : Request) (m : Message) (X : Stepped) →
-        roomStep (rooms i) (cs i) (Send q) ≡ X → sent_by X.station.number X.answer ≡ m ∷ [] →
-        (e : ServerEvent) (Y : Served) → serverEvent m ≡ to-server.For e → serverStep w s c e ≡ Y →
+        room_step (rooms i) (cs i) (Send q) ≡ X → sent_by X.station.number X.answer ≡ m ∷ [] →
+        (e : ServerEvent) (Y : Served) → server_event m ≡ to_server.For e → server_step w s c e ≡ Y →
         Story Q Y.server (put i X.station rooms)
     said {s} {rooms} S i here q m X x-is m-is e Y e-is y-is =
         let E₁ = done S.history i (Send q) here refl (rooms i) (S.rooms_are i) X x-is in
@@ -152,7 +152,7 @@ module _ (z : Settings) (w : ℕ) where
 
     -- a room does something that sends nothing of use
     pub acted : {s : Server} {rooms : ℕ → Station} → Story Q s rooms → (i : ℕ) (e : RoomEvent) → i < z.stations → is_own e ≡ true →
-        (X : Stepped) → roomStep (rooms i) (cs i) e ≡ X → Story Q s (put i X.station rooms)
+        (X : Stepped) → room_step (rooms i) (cs i) e ≡ X → Story Q s (put i X.station rooms)
     acted {s} {rooms} S i e here own X x-is =
         record {
           world = _;
@@ -161,12 +161,12 @@ module _ (z : Settings) (w : ℕ) where
           rooms_are = λ j. ap (λ (v : Station). cond (eqb j i) X.station v) (S.rooms_are j);
         }
 
-    pub ticked : {s : Server} {rooms : ℕ → Station} → Story Q s rooms → (s' : Server) → (serverStep w s c server.Tick).server ≡ s' → Story Q s' rooms
+    pub ticked : {s : Server} {rooms : ℕ → Station} → Story Q s rooms → (s' : Server) → (server_step w s c server.Tick).server ≡ s' → Story Q s' rooms
     unfolding next
     ticked {s} {rooms} S s' q =
         record {
-          world = with_server S.world (serverStep w s c server.Tick) [];
-          history = go S.history ticks tt (ap (λ (v : Server). with_server S.world (serverStep w v c server.Tick) []) S.server_is);
+          world = with_server S.world (server_step w s c server.Tick) [];
+          history = go S.history ticks tt (ap (λ (v : Server). with_server S.world (server_step w v c server.Tick) []) S.server_is);
           server_is = q;
           rooms_are = S.rooms_are;
         }

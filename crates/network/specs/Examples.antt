@@ -6,7 +6,7 @@ use Rattle.record.specs.declared.message.Message.{Message}
 use Rattle.timing.specs.declared.settings.Settings.{Settings}
 use Rattle.timing.specs.Settings.{settings, wait}
 use Rattle.members.specs.declared.member.Status.TheVariants.{Unknown, TimingOut}
-use Rattle.server.specs.State.{status_of, mode_of as grantedTo}
+use Rattle.server.specs.State.{status_of, mode_of as granted_to}
 use Rattle.holds.specs.declared.stage.Standing.TheVariants.{Closing}
 use Rattle.requests.specs.declared.Request.TheVariants.{Hello, KeepAlive, Ask, Release}
 use Rattle.room.specs.declared.event.Event.TheVariants.{Send, Begin, Edit, End, WriteOut, Demand}
@@ -68,7 +68,7 @@ holding =
     ∷ at 0 (gets 0 (granted 0 2 X)) ∷ at 0 (hears (asked 0 2 X)) ∷ at 0 (does 0 (Send (Ask 0 (mode X))))
     ∷ greeted
 
--- 1: "a lease renewed by an ACK". The keep_alive is sent at 5, and its ACK comes at 6.
+-- 1: "a lease renewed by an ACK". The keep-alive is sent at 5, and its ACK comes at 6.
 abbrev pub renewed : List Moment
 renewed = at 6 (gets 0 (done 0 2)) ∷ at 5 (hears (alive 0 2)) ∷ at 5 (does 0 (Send KeepAlive)) ∷ greeted
 
@@ -127,16 +127,16 @@ taken_over =
 
 pub record TakenOver : Type 0 where
   pub permitted : Permitted small (wait small) taken_over
-  pub held : grantedTo (after holding).server 0 0 ≡ X
+  pub held : granted_to (after holding).server 0 0 ≡ X
   pub times_out : status_of (after timing_out).server 0 ≡ TimingOut 8
-  pub still_held : grantedTo (after not_yet).server 0 0 ≡ X
+  pub still_held : granted_to (after not_yet).server 0 0 ≡ X
   pub unknown : status_of (after freed).server 0 ≡ Unknown
-  pub gone : grantedTo (after freed).server 0 0 ≡ 0
+  pub gone : granted_to (after freed).server 0 0 ≡ 0
   pub other_uses : may_use ((after taken_over).rooms 1) 20 0 ≡ use'.Yes
   pub in_mode : mode_of ((after taken_over).rooms 1) 0 ≡ R
   pub no_longer : may_use ((after taken_over).rooms 0) 20 0 ≡ use'.No
 
--- 4: "a NACKed room closing and writing out in time". Room 0 edits at 1 and does not answer the demand of 1; its keep_alive, sent at 5,
+-- 4: "a NACKed room closing and writing out in time". Room 0 edits at 1 and does not answer the demand of 1; its keep-alive, sent at 5,
 -- is heard only after the tick at 6 and is NACKed; the room closes at 7 and writes out at 8, before its lease ends at 10.
 abbrev pub closing : List Moment
 closing =
@@ -188,7 +188,7 @@ pub record Overtaken : Type 0 where
   pub permitted : Permitted small (wait small) overtaken
   pub times_out : status_of (after nearly).server 0 ≡ TimingOut 8
   pub still_uses : may_use ((after nearly).rooms 0) 17 0 ≡ use'.Yes
-  pub still_held : grantedTo (after nearly).server 0 0 ≡ X
+  pub still_held : granted_to (after nearly).server 0 0 ≡ X
   pub too_early : status_of (run small 11 nearly).server 0 ≡ Unknown
   pub unknown : status_of (after passed_by).server 0 ≡ Unknown
   pub no_longer : may_use ((after passed_by).rooms 0) 18 0 ≡ use'.No

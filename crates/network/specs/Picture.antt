@@ -7,17 +7,17 @@ use Rattle.server.specs.declared.server.Server.{Server}
 use Rattle.server.specs.declared.server.Served.{Served}
 use Rattle.judging.specs.declared.event.Event.TheVariants as server
 use Rattle.server.specs.declared.border.Meant.{Meant as ToServer}
-use Rattle.server.specs.declared.border.Meant.TheVariants as to-server
+use Rattle.server.specs.declared.border.Meant.TheVariants as to_server
 use Rattle.server.specs.State.{new_server}
-use Rattle.server.specs.Step.{step as serverStep}
-use Rattle.server.specs.Border.{sent_for, event_of as serverEvent}
+use Rattle.server.specs.Step.{step as server_step}
+use Rattle.server.specs.Border.{sent_for, event_of as server_event}
 use Rattle.station.specs.declared.station.Station.{Station}
 use Rattle.station.specs.declared.station.Stepped.{Stepped}
 use Rattle.room.specs.declared.event.Event.{Event}
 use Rattle.station.specs.declared.border.Meant.{Meant as ToRoom}
 use Rattle.station.specs.declared.border.Meant.TheVariants as to_room
-use Rattle.station.specs.Station.{new_station, step as roomStep}
-use Rattle.station.specs.Border.{sent_by, event_of as roomEvent}
+use Rattle.station.specs.Station.{new_station, step as room_step}
+use Rattle.station.specs.Border.{sent_by, event_of as room_event}
 
 -- The server, the room of each number, and every message ever sent, up to the server and down to the rooms. What is sent stays:
 -- the network may lose, delay, repeat or reorder, so a message may come at any later moment, any number of times, or never.
@@ -61,22 +61,22 @@ with_room w i x =
 
 -- the server takes a message of its kinds, and drops any other
 abbrev pub hearing : ℕ → World → ℕ → Message → ToServer → World
-hearing wait w now m (to-server.For e) =
-    with_server w (serverStep wait w.server now e) (sent_for m.station m.number (serverStep wait w.server now e).answer)
-hearing wait w now m to-server.NotForServer = w
+hearing wait w now m (to_server.For e) =
+    with_server w (server_step wait w.server now e) (sent_for m.station m.number (server_step wait w.server now e).answer)
+hearing wait w now m to_server.NotForServer = w
 
 -- and so does a room
 abbrev pub getting : World → ℕ → ℕ → ToRoom → World
-getting w i now (to_room.For e) = with_room w i (roomStep (w.rooms i) now e)
+getting w i now (to_room.For e) = with_room w i (room_step (w.rooms i) now e)
 getting w i now to_room.NotForRoom = w
 
 -- "true readings": each engine is told what its own clock reads at that moment
 unfoldable pub next : ℕ → World → Moment → Happening → World
 next wait w t nothing = w
-next wait w t ticks = with_server w (serverStep wait w.server t.server server.Tick) []
-next wait w t (hears m) = hearing wait w t.server m (serverEvent m)
-next wait w t (gets i m) = getting w i (t.rooms i) (roomEvent m)
-next wait w t (does i e) = with_room w i (roomStep (w.rooms i) (t.rooms i) e)
+next wait w t ticks = with_server w (server_step wait w.server t.server server.Tick) []
+next wait w t (hears m) = hearing wait w t.server m (server_event m)
+next wait w t (gets i m) = getting w i (t.rooms i) (room_event m)
+next wait w t (does i e) = with_room w i (room_step (w.rooms i) (t.rooms i) e)
 next wait w t (asks i) = w
 
 -- A history is a list of moments, the latest first. The wait is a parameter: the theorems speak of W and of one tick less.

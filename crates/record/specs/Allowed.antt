@@ -19,7 +19,7 @@ modeless m = ltb m.profile most_profiles && eqb m.mode 0
 abbrev pub mode_from : ℕ → Message → Bool
 mode_from first m = ltb m.profile most_profiles && (leb first m.mode && leb m.mode 6)
 
--- "1 hello and 2 keep_alive: 255, 0, 0."
+-- "1 hello and 2 keep-alive: 255, 0, 0."
 abbrev pub greets : Message → Bool
 greets m = (eqb m.kind 1 || eqb m.kind 2) && bare m && eqb m.detail 0
 

@@ -38,7 +38,7 @@ pub record SaidAsked : Type 0 where
   pub profile : ℕ
   pub mode : ℕ
 
--- "1 hello and 2 keep_alive: 255, 0, 0. 3 ask: profile .., mode .., 0. 4 release and 5 keep: profile, 0, 0."
+-- "1 hello and 2 keep-alive: 255, 0, 0. 3 ask: profile .., mode .., 0. 4 release and 5 keep: profile, 0, 0."
 abbrev pub said_request : Request → SaidAsked
 said_request Hello = record { good = true; kind = 1; profile = 255; mode = 0 }
 said_request KeepAlive = record { good = true; kind = 2; profile = 255; mode = 0 }

@@ -23,7 +23,7 @@ release_refusal h = cond (ltb 0 h.started || h.unwritten) 12 0
 abbrev pub started_refusal : Hold → ℕ
 started_refusal h = cond (ltb 0 h.started) 0 11
 
--- 8: "the station is out"; 9: "phase or state forbids it". "Ask, keep_alive, release, keep: open, phase 1 or 2."
+-- 8: "the station is out"; 9: "phase or state forbids it". "Ask, keep-alive, release, keep: open, phase 1 or 2."
 abbrev pub sending_refusal : Stage → ℕ → ℕ → ℕ
 sending_refusal stage own last = cond stage.out 8 (cond stage.early (or_else own (number_refusal last)) 9)
 
@@ -62,7 +62,7 @@ write_out_refusal stage h = cond stage.out 8 (cond (writes h.mode.0) 0 10)
 unfoldable pub demand_refusal : Stage → ℕ
 demand_refusal stage = cond stage.out 8 (cond stage.early 0 9)
 
--- "An ACK fits if it is done for hello, keep_alive, release, keep"
+-- "An ACK fits if it is done for hello, keep-alive, release, keep"
 abbrev pub is_done : Ack → Bool
 is_done Done = true
 is_done (Granted p m) = false
