@@ -121,3 +121,14 @@ pub(crate) fn next(
     }
     refilled(from, chunk, after)
 }
+
+// Puts the reply to the last line, and writes out what is there.
+pub(crate) fn last(
+    to: &mut impl Write,
+    out: &mut [u8],
+    flow: Flow,
+    reply: Reply,
+) -> io::Result<()> {
+    put_on(to, out, flow.used, reply, false)?;
+    Ok(())
+}

@@ -2,7 +2,7 @@
 ghost use Rattle.std.specs.Prelude.{◌≡◌, ◌<◌, length};
 ghost use Rattle.timing.specs.Limits.{most_stations};
 
-use crate::flow::{Flow, next, put_on};
+use crate::flow::{Flow, last, next};
 use crate::line::{Line, meant};
 use crate::plain::plainly;
 use crate::reply::{NOTHING, Reply};
@@ -57,50 +57,36 @@ pub(crate) fn play(
     line: &mut [u8],
     out: &mut [u8],
 ) -> io::Result<()> {
-    let none = unset();
-    let mut server = Server::new(none).server;
-    let mut rooms = rooms_of(none);
+    let mut server = Server::new(unset()).server;
+    let mut rooms = rooms_of(unset());
     let mut ready = false;
     let mut flow = Flow::new();
     let mut reply = Reply::of(NOTHING);
     let mut turns = u64::MAX;
     while turns > 0 {
-        flow = next(
-            &mut *from,
-            &mut *to,
-            &mut *chunk,
-            &mut *line,
-            &mut *out,
-            flow,
-            reply,
-        )?;
+        flow = next(from, to, chunk, line, out, flow, reply)?;
         turns = left(turns, flow.over);
-        match meant(&*line, flow.count, flow.whole, ready) {
+        reply = match meant(&*line, flow.count, flow.whole, ready) {
             Line::Settings(settings) => {
                 server = Server::new(settings).server;
                 rooms = rooms_of(settings);
                 ready = true;
-                reply = Reply::of(NOTHING);
+                Reply::of(NOTHING)
             }
             Line::Server(reading, event) => {
                 let after = server.step(reading, event);
                 server = after.server;
-                let answer = after.answer;
-                reply = served(answer);
+                served(after.answer)
             }
             Line::Room(room, reading, event) => {
                 let i = within(room);
                 let after = rooms[i].step(reading, event);
-                let station = after.station;
-                rooms[i] = station;
-                reply = stepped(after);
+                rooms[i] = after.station;
+                stepped(after)
             }
-            Line::Question(room, reading, question) => {
-                reply = asked(rooms[within(room)], reading, question);
-            }
-            Line::Plain(plain) => reply = plainly(&*line, flow.count, plain),
-        }
+            Line::Question(room, now, question) => asked(rooms[within(room)], now, question),
+            Line::Plain(plain) => plainly(&*line, flow.count, plain),
+        };
     }
-    put_on(to, out, flow.used, reply, false)?;
-    Ok(())
+    last(to, out, flow, reply)
 }

@@ -1,3 +1,4 @@
+-- `judge_in` looks at the station that an event names, and at its profile and at who is live where it needs them.
 use Rattle.std.proofs.Common.{◌≡◌, ℕ, Bool, ap, sym, ◌∙◌}
 use Rattle.judging.specs.Judge.{judged_for}
 use Rattle.judging.proofs.Told.{judged_told}

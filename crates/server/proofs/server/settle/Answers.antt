@@ -1,3 +1,4 @@
+-- `settle` ticks, or stores the reading, the station and the profile, and wipes who is gone.
 use Rattle.std.proofs.Common.{◌≡◌, Bool, map, refl, ap, sym, set, ◌∙◌}
 use Rattle.profiles.specs.Under.{wiped_under}
 use Rattle.server.specs.State.{Server}

@@ -1,3 +1,4 @@
+-- `step_in` judges, and then settles: the server is lent to each.
 use Rattle.std.proofs.Common.{◌≡◌, length, ap, ◌∙◌, rules}
 use Rattle.profiles.specs.Said.{said}
 use Rattle.timing.specs.Settings.{wait, wait_answer}

@@ -1,3 +1,4 @@
+-- `late_in` goes down over the profiles behind the reference, and gathers.
 use Rattle.std.proofs.Common.{suc, get_or, length, ◌≤◌, ◌≡◌, ℕ, ◌-◌, List, ap, sym, ◌∙◌, arith, drop, drop_of_length-le, rules}
 use Rattle.std.specs.Int.Bits.{bit_or}
 use Rattle.masks.specs.Mask.{mask}

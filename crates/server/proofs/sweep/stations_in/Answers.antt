@@ -1,3 +1,4 @@
+-- `stations_in` goes down over the members behind the reference, and doubles.
 use Rattle.std.proofs.Common.{arith}
 use Rattle.masks.proofs.Laws.{room}
 use Rattle.members.specs.declared.member.Member.{Member}

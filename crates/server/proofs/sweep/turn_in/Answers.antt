@@ -1,3 +1,4 @@
+-- `turn_in` goes up over the members behind the reference, and halves the set.
 use Rattle.std.proofs.Common.{◌≡◌, ap, ◌∙◌, arith}
 use Rattle.members.specs.Member.{nobody, restatus}
 use Rattle.server.specs.Sweep.{rounds}

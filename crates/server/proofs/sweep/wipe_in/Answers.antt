@@ -1,3 +1,4 @@
+-- `wipe_in` goes up over the profiles behind the reference, and stores one only where something goes.
 use Rattle.std.proofs.Common.{◌≡◌, ◌<◌, List, ap, sym, ◌∙◌, arith, length, get_or, set, length-set}
 use Rattle.profiles.specs.Under.{wiped_under}
 use Rattle.server.specs.State.{Server, Profile, no_profile}

@@ -1,3 +1,4 @@
+-- `tick_in` frees, and then starts: the server is lent to each of the loops in turn.
 use Rattle.std.proofs.Common.{◌≡◌, ℕ, List, map, refl, ap, ◌∙◌}
 use Rattle.std.specs.Int.Bits.{bit_and}
 use Rattle.timing.specs.Settings.{wait_answer}
