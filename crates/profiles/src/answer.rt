@@ -1,5 +1,6 @@
 // What the server answers. The ask rule gives three of these.
 use modes::Mode;
+use refusals::Refusal;
 
 #[derive(Clone, Copy)]
 pub enum Answer {
@@ -13,6 +14,5 @@ pub enum Answer {
     Nack(u8),
     // The stations freed and those that start timing out.
     Ticked(u64, u64),
-    // The number of the refusal.
-    Refused(u8),
+    Refused(Refusal),
 }
