@@ -1,35 +1,41 @@
 -- Each way through the reader's rule, from what its tests say.
 -- Assumes nothing.
-use Prim.Native.Nat.{ℕ, ◌<◌, ◌≤◌}
+use Prim.Native.Nat.{ℕ, ◌+◌, ◌<◌, ◌≤◌}
 use mathlib.Core.Path.{◌≡◌}
 use mathlib.Core.List.{List}
 use mathlib.Core.Bool.{true, false}
-use lib.ListN.{length, get_or}
+use lib.ListN.{length, get_or, take, drop, length-take, length-drop}
+use native.Mathlib.Omega.{arith}
 use borrow.Author.Tests.{lt-ltb, le-ltb}
-use Rattle.record.specs.declared.read.Read.TheVariants.{Record, Refused}
+use Rattle.std.specs.Prelude.{Ok, Err}
+use Rattle.refusals.specs.declared.Refusal.TheVariants.{TooShort, BadMark, BadKind, NotAllowed}
 use Rattle.record.specs.Allowed.{is_kind, allowed}
-use Rattle.record.specs.Read.{marked, message_of, read_bytes}
+use Rattle.record.specs.Read.{marked, message_of, read_bytes, read_at}
 
 module _ (b : List ℕ) (next : ℕ) where
-  pub short : length b < 11 → read_bytes b next ≡ Refused 15
+  pub short : length b < 11 → read_bytes b next ≡ Err TooShort
   unfolding read_bytes
   short h = simp (lt-ltb _ _ h)
 
   module _ (whole : 11 ≤ length b) where
-    pub unmarked : marked (get_or b 0 0) (get_or b 1 0) ≡ false → read_bytes b next ≡ Refused 16
+    pub unmarked : marked (get_or b 0 0) (get_or b 1 0) ≡ false → read_bytes b next ≡ Err BadMark
     unfolding read_bytes
     unmarked h = simp (le-ltb _ _ whole, h)
 
     module _ (mark : marked (get_or b 0 0) (get_or b 1 0) ≡ true) where
-      pub unkind : is_kind (message_of b).kind ≡ false → read_bytes b next ≡ Refused 17
+      pub unkind : is_kind (message_of b).kind ≡ false → read_bytes b next ≡ Err BadKind
       unfolding read_bytes
       unkind h = simp (le-ltb _ _ whole, mark, h)
 
       module _ (kind : is_kind (message_of b).kind ≡ true) where
-        pub unallowed : allowed (message_of b) ≡ false → read_bytes b next ≡ Refused 18
+        pub unallowed : allowed (message_of b) ≡ false → read_bytes b next ≡ Err NotAllowed
         unfolding read_bytes
         unallowed h = simp (le-ltb _ _ whole, mark, kind, h)
 
-        pub accepted : allowed (message_of b) ≡ true → read_bytes b next ≡ Record (message_of b) next
+        pub accepted : allowed (message_of b) ≡ true → read_bytes b next ≡ Ok (message_of b, next)
         unfolding read_bytes
         accepted h = simp (le-ltb _ _ whole, mark, kind, h)
+
+-- fewer than eleven bytes stand at the place
+pub too_short : (s : List ℕ) (at : ℕ) → length s < at + 11 → read_at s at ≡ Err TooShort
+too_short s at h = short (take 11 (drop at s)) (at + 11) (simp (length-take, length-drop) (omega arith))
