@@ -8,6 +8,7 @@ ghost use Rattle.requests.specs.Request.{profile_of, profile_refusal, pair_refus
 
 use modes::Mode;
 use record::Message;
+use refusals::Refusal;
 
 // Profile and mode are numbers as given or received.
 #[derive(Clone, Copy)]
@@ -19,53 +20,47 @@ pub enum Request {
     Keep(u8),
 }
 
-// What a message asks, or nothing where it is of another kind.
-#[derive(Clone, Copy)]
-pub enum Asked {
-    For(Request),
-    Nothing,
-}
-
 // The profile that a request names, 0 where it names none.
 pub fn profile_of(request: Request) -> u8
     ensures { result ≡ profile_of request }
 {
     match request {
-        Request::Hello => 0,
-        Request::KeepAlive => 0,
-        Request::Ask(profile, _) => profile,
-        Request::Release(profile) => profile,
-        Request::Keep(profile) => profile,
+        Request::Hello | Request::KeepAlive => 0,
+        Request::Ask(profile, _) | Request::Release(profile) | Request::Keep(profile) => profile,
     }
 }
 
-// 3: a profile out of range.
-pub fn profile_refusal(profiles: u64, profile: u8) -> u8
+// Whether a profile is in range.
+pub fn check_profile(profiles: u64, profile: u8) -> Result<(), Refusal>
     ensures { result ≡ profile_refusal profiles profile }
 {
-    if profile as u64 >= profiles { 3 } else { 0 }
+    if profile as u64 >= profiles {
+        Err(Refusal::Profile)
+    } else {
+        Ok(())
+    }
 }
 
-// 3 and 4: a profile or a mode out of range.
-pub fn pair_refusal(profiles: u64, profile: u8, mode: Mode) -> u8
+// Whether a profile and a mode are.
+pub fn check_pair(profiles: u64, profile: u8, mode: Mode) -> Result<(), Refusal>
     ensures { result ≡ pair_refusal profiles profile (is_mode mode.0) }
 {
-    if profile as u64 >= profiles {
-        return 3;
+    check_profile(profiles, profile)?;
+    if mode.is_mode() {
+        Ok(())
+    } else {
+        Err(Refusal::Mode)
     }
-    if mode.is_mode() { 0 } else { 4 }
 }
 
-// 3 and 4 of what a request names.
-pub fn request_refusal(profiles: u64, request: Request) -> u8
+// Whether what a request names is.
+pub fn check_request(profiles: u64, request: Request) -> Result<(), Refusal>
     ensures { result ≡ request_refusal profiles request }
 {
     match request {
-        Request::Hello => 0,
-        Request::KeepAlive => 0,
-        Request::Ask(profile, mode) => pair_refusal(profiles, profile, mode),
-        Request::Release(profile) => profile_refusal(profiles, profile),
-        Request::Keep(profile) => profile_refusal(profiles, profile),
+        Request::Hello | Request::KeepAlive => Ok(()),
+        Request::Ask(profile, mode) => check_pair(profiles, profile, mode),
+        Request::Release(profile) | Request::Keep(profile) => check_profile(profiles, profile),
     }
 }
 
@@ -89,6 +84,7 @@ fn on_profile(kind: u8, station: u8, number: u32, profile: u8, mode: u8) -> Mess
 }
 
 // The message of what a station asks under a number.
+#[tactic(auto, unfolding(crate::specs::Request::message_of))]
 pub fn message_of(station: u8, number: u32, request: Request) -> Message
     ensures { result ≡ message_of station number request }
 {
@@ -107,17 +103,18 @@ pub fn message_of(station: u8, number: u32, request: Request) -> Message
     }
 }
 
-// What a message asks.
-pub fn request_of(m: Message) -> Asked
+// What a message asks, or none where it is of another kind.
+#[tactic(auto, unfolding(crate::specs::Request::request_of))]
+pub fn request_of(m: Message) -> Option<Request>
     ensures { said_asked result ≡ said_asked (request_of m) }
 {
-    let kind = m.kind;
-    match kind {
-        1 => Asked::For(Request::Hello),
-        2 => Asked::For(Request::KeepAlive),
-        3 => Asked::For(Request::Ask(m.profile, Mode(m.mode))),
-        4 => Asked::For(Request::Release(m.profile)),
-        5 => Asked::For(Request::Keep(m.profile)),
-        _ => Asked::Nothing,
-    }
+    let request = match m.kind {
+        Message::HELLO => Request::Hello,
+        Message::KEEP_ALIVE => Request::KeepAlive,
+        Message::ASK => Request::Ask(m.profile, Mode(m.mode)),
+        Message::RELEASE => Request::Release(m.profile),
+        Message::KEEP => Request::Keep(m.profile),
+        _ => return None,
+    };
+    Some(request)
 }
