@@ -6,12 +6,13 @@ use mathlib.Core.List.{List, [], ◌∷◌}
 use Prim.Native.Nat.{ℕ, zero, suc, ◌+◌, ◌-◌, ◌*◌, ◌/◌, ◌%◌, ◌^◌, ◌<◌, ◌≤◌, min, max}
 use native.Mathlib.Nat.{pow-suc, max-zero}
 use native.Mathlib.Omega.{arith}
+use native.Mathlib.Numerals.{add-one}
 use lib.Dec.{eqb, lit<}
 use borrow.Author.Tests.{eqb-true, eqb-false}
 use lib.Bits.{bit_and, bit_or, and_step, or_step, and_zero_l, and_zero_r, or_zero_l, or_zero_r}
 use lib.Pow.{pow_mono}
 use lib.Count.{ones, ones_in, ones_step, count_trailing_zeros}
-use lib.ListN.{length, get_or, drop, replicate, length-drop, drop_of_length-le}
+use lib.ListN.{length, get_or, take, drop, replicate, length-drop, drop_of_length-le}
 use lib.Seq.{drop-cons}
 use Rattle.masks.specs.Mask.{Set, bit_of, mask, count, any, both, either, set_of, those_at, those, change_in, change_under, some_under}
 
@@ -98,6 +99,16 @@ mask_either [] t = or_zero_l (mask t)
 mask_either (a ∷ s) [] = or_zero_r (mask (a ∷ s))
 mask_either (a ∷ s) (b ∷ t) =
     or_step (mask s * 2 + bit_of a) (mask t * 2 + bit_of b) ∙ rw (half a s, half b t, odd a s, odd b t, mask_either s t, high a b)
+
+-- a bit on its place, below the sixty-fourth
+pub shifted : (i : ℕ) → i < 64 → 1 * 2 ^ i % 2 ^ 64 ≡ 2 ^ i
+shifted i h =
+    let within : i ≤ 63 = omega arith in
+    let top : 2 ^ i ≤ 2 ^ 63 = pow_mono within in
+    omega arith
+
+pub doubled : (i : ℕ) → 2 ^ (i + 1) ≡ 2 * 2 ^ i
+doubled i = rw add-one (omega (arith, pow-suc 2 i))
 
 -- with place k taken in, the first is looked for up to k: it is at k where none before is in the set
 pub first_up_to : (k j n : ℕ) → k < j → count_trailing_zeros j (bit_or n (2 ^ k)) ≡ count_trailing_zeros k n
@@ -197,3 +208,27 @@ module _ {A : Type 0} where
           → mask (those g xs) * 2 + bit_of (g x) ≡ 0
       by_test true s d h rest = let z : ◌≡◌ {A = ℕ} 0 1 = cc in absurd (omega arith)
       by_test false s d h rest = rw (out x d, rest h)
+
+  -- a loop that goes up: what it has looked at, and one more
+  pub mask_more : (f : ℕ → A → Bool) (d : A) (k i : ℕ) (xs : List A) → i < length xs
+      → mask (those_at f k (take (suc i) xs)) ≡ mask (those_at f k (take i xs)) + bit_of (f (k + i) (get_or xs i d)) * 2 ^ i
+  mask_more f d k i [] h = absurd (omega arith)
+  mask_more f d k zero (x ∷ xs) h =
+      let e : k + 0 ≡ k = omega arith in
+      rw e (omega arith)
+  mask_more f d k (suc i) (x ∷ xs) h =
+      let e : k + suc i ≡ suc k + i = omega arith in
+      rw (e, mask_more f d (suc k) i xs (omega arith), pow-suc 2 i) (omega arith)
+
+  pub mask_turn : (f : ℕ → A → Bool) (xs : List A) (i : ℕ) (x : A) → i < length xs → x ≡ get_or xs i x
+      → (m n : ℕ) (b : Bool) → b ≡ f i x → m ≡ mask (those_at f 0 (take i xs)) → n ≡ m + bit_of b * 2 ^ i
+      → n ≡ mask (those_at f 0 (take (i + 1) xs))
+  mask_turn f xs i x h g m n b e k q =
+      let z : 0 + i ≡ i = omega arith in
+      let more : mask (those_at f 0 (take (suc i) xs)) ≡ mask (those_at f 0 (take i xs)) + bit_of (f i x) * 2 ^ i
+      = mask_more f x 0 i xs h ∙ rw (z, sym g) in
+      q ∙ rw (k, e, add-one, more)
+
+  pub same_at : (f : A → Bool) (k : ℕ) (xs : List A) → those_at (λ (i : ℕ) (x : A). f x) k xs ≡ those f xs
+  same_at f k [] = refl
+  same_at f k (x ∷ xs) = ap (λ (s : Set). f x ∷ s) (same_at f (suc k) xs)

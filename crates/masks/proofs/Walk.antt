@@ -72,6 +72,10 @@ module _ {A : Type 0} (f : A → Bool) where
   some_none [] = refl
   some_none (x ∷ l) = some_none l
 
+  -- nothing is left of the mask
+  pub none_left : (w : ℕ) → w ≡ 0 → (l : List A) → some_under f w l ≡ false
+  none_left w e l = rw e (some_none l)
+
   pub some_out : (w : ℕ) → w ≡ 0 → (l : List A) (b : Bool) → (b || some_under f w l) ≡ b
   some_out w e l true = refl
   some_out w e l false = rw e (some_none l)

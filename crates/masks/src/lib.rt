@@ -1,9 +1,10 @@
 // Sets of stations or profiles as masks of 64 bits, the first as the lowest bit.
 #![tactic(auto)]
 
-ghost use Rattle.std.specs.Prelude.{◌≡◌};
+ghost use Rattle.std.specs.Prelude.{◌≡◌, ◌≤◌, length, Bool, ℕ};
 ghost use Rattle.std.specs.Int.Count.{ones, count_trailing_zeros};
-ghost use Rattle.masks.specs.Mask.{bit_of};
+ghost use Rattle.masks.specs.Mask.{bit_of, mask, those, those_at, change_under, some_under};
+ghost use Rattle.masks.specs.Walk.{Tells, TellsAt};
 
 // How many are in the set: the language's own count of ones.
 pub fn count(mask: u64) -> u32
@@ -28,4 +29,60 @@ pub fn bit(so: bool) -> u64
     ensures { result ≡ bit_of so }
 {
     if so { 1 } else { 0 }
+}
+
+// The set of those that pass a test, which is told each one's place too.
+pub fn those_at<T: Copy, F: Fn(usize, T) -> bool>(items: &[T], test: F) -> u64
+    requires callable { F.IsAlwaysCallable test }
+    requires fits { length items.now ≤ 64 }
+    ensures { (f : ℕ → T → Bool) → TellsAt (F.post test) f → result ≡ mask (those_at f 0 items.now) }
+{
+    let mut mask: u64 = 0;
+    for (i, item) in items.iter().enumerate() {
+        if test(i, *item) {
+            mask += 1 << i;
+        }
+    }
+    mask
+}
+
+// The set of those that pass a test.
+pub fn those<T: Copy, F: Fn(T) -> bool>(items: &[T], test: F) -> u64
+    requires callable { F.IsAlwaysCallable test }
+    requires fits { length items.now ≤ 64 }
+    ensures { (f : T → Bool) → Tells (F.post test) f → result ≡ mask (those f items.now) }
+{
+    those_at(items, |_, item| test(item))
+}
+
+// Those in a set are changed.
+pub fn change_under<T: Copy, F: Fn(T) -> T>(items: &mut [T], set: u64, change: F)
+    requires { F.IsAlwaysCallable change }
+    ensures { (f : T → T) → Tells (F.post change) f → items.new ≡ change_under f set items.old }
+{
+    let mut rest = set;
+    for item in items.iter_mut() {
+        if rest % 2 == 1 {
+            *item = change(*item);
+        }
+        rest /= 2;
+    }
+}
+
+// Whether one of those in a set passes a test.
+pub fn some_under<T: Copy, F: Fn(T) -> bool>(items: &[T], set: u64, test: F) -> bool
+    requires { F.IsAlwaysCallable test }
+    ensures { (f : T → Bool) → Tells (F.post test) f → result ≡ some_under f set items.now }
+{
+    let mut rest = set;
+    for item in items {
+        if rest == 0 {
+            return false;
+        }
+        if rest % 2 == 1 && test(*item) {
+            return true;
+        }
+        rest /= 2;
+    }
+    false
 }
