@@ -1,7 +1,8 @@
 // A message, and the numbers of its record by name.
 use timing::settings::Settings;
 
-// Six plain numbers, so that a message the record does not allow can be put to the writer and is refused there.
+// Kept: six plain numbers and no enums, since a message that the record does not allow can be put to the writer, whose `put_record`
+// answers 18 for it.
 #[derive(Clone, Copy, Debug, PartialEq, Eq)]
 pub struct Message {
     pub kind: u8,

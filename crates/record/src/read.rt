@@ -9,20 +9,22 @@ use refusals::Refusal;
 fn marked(first: u8, second: u8) -> bool
     ensures { result ≡ marked first second }
 {
-    (first == Message::MARK_FIRST) & (second == Message::MARK_SECOND)
+    first == Message::MARK_FIRST && second == Message::MARK_SECOND
 }
 
 // The six numbers of eleven bytes.
 fn message_of(b: &[u8; Message::LENGTH]) -> Message
     ensures { result ≡ message_of b.now }
 {
+    let [_, _, kind, station, n0, n1, n2, n3, profile, mode, detail] = *b;
+    let number = u32::from_be_bytes([n0, n1, n2, n3]);
     Message {
-        kind: b[2],
-        station: b[3],
-        number: u32::from_be_bytes([b[4], b[5], b[6], b[7]]),
-        profile: b[8],
-        mode: b[9],
-        detail: b[10],
+        kind,
+        station,
+        number,
+        profile,
+        mode,
+        detail,
     }
 }
 
