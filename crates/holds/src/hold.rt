@@ -30,51 +30,36 @@ impl Hold {
     pub fn with_mode(self, mode: Mode) -> Hold
         ensures { result ≡ with_mode mode.0 self }
     {
-        Hold {
-            mode,
-            started: self.started,
-            unwritten: self.unwritten,
-        }
+        Hold { mode, ..self }
     }
 
     pub fn with_started(self, started: u8) -> Hold
         ensures { result ≡ with_started started self }
     {
-        let mode = self.mode;
-        Hold {
-            mode,
-            started,
-            unwritten: self.unwritten,
-        }
+        Hold { started, ..self }
     }
 
     pub fn with_unwritten(self, unwritten: bool) -> Hold
         ensures { result ≡ with_unwritten unwritten self }
     {
-        let mode = self.mode;
-        Hold {
-            mode,
-            started: self.started,
-            unwritten,
-        }
+        Hold { unwritten, ..self }
     }
 }
 
+#[tactic(auto, unfolding(crate::specs::Hold::no_holds))]
 pub fn no_holds() -> [Hold; Settings::PROFILES]
     ensures { result ≡ no_holds }
 {
-    let empty = Hold::empty();
-    [empty; Settings::PROFILES]
+    [Hold::empty(); Settings::PROFILES]
 }
 
 pub fn hold_at(holds: [Hold; Settings::PROFILES], profile: u8) -> Hold
     ensures { result ≡ hold_in holds profile }
 {
-    let at = profile as usize;
-    if at < Settings::PROFILES {
-        return holds[at];
-    }
-    Hold::empty()
+    holds
+        .get(profile as usize)
+        .copied()
+        .unwrap_or(Hold::empty())
 }
 
 // The profiles with something unwritten.
