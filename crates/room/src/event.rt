@@ -2,11 +2,11 @@
 use modes::Mode;
 pub use requests::Request;
 
-// The waiting message and the reading at its sending. Its number is the last number.
+// A message that waits, and the reading at its sending. Its number is the last number.
 #[derive(Clone, Copy)]
-pub enum Waiting {
-    Nothing,
-    Sent(Request, u64),
+pub struct Sent {
+    pub request: Request,
+    pub at: u64,
 }
 
 // What an ACK says: done, or of a profile.
