@@ -10,13 +10,10 @@ use lib.ListN.{length, get_or, take, drop, length-take, length-drop, take-append
 use lib.Seq.{take_at, drop_at, drop-cons, length-take-le, drop-drop, get_or-take, get_or-drop, take-take}
 use borrow.Author.Tests.{le-ltb, ne_eqb}
 use Rattle.record.specs.declared.message.Message.{Message}
-use Rattle.writer.specs.declared.put.Put.{Put}
-use Rattle.writer.specs.declared.put.Put.TheVariants as put
-use Rattle.record.specs.declared.read.Read.{Read}
-use Rattle.record.specs.declared.read.Read.TheVariants as read
+use Rattle.std.specs.Prelude.{Ok, Err}
 use Rattle.record.specs.Allowed.{is_kind, others, demands, allowed}
-use Rattle.writer.specs.Put.{bytes_of, put_answer, put_content}
-use Rattle.record.specs.Read.{marked, message_of, read_bytes, read_at}
+use Rattle.writer.specs.Put.{Put, bytes_of, put_answer, put_content}
+use Rattle.record.specs.Read.{Read, marked, message_of, read_bytes, read_at}
 use Rattle.record.proofs.BigEndian.{digits_back, number_back}
 use Rattle.writer.proofs.Lent as lent
 use Rattle.record.proofs.Told.{Told, told}
@@ -54,17 +51,17 @@ module _ (m : Message) (fits : m.number < 256 ^ 4) where
       })
       (digits_back 4 m.number fits)
 
-  bytes_read : (next : ℕ) → allowed m ≡ true → read_bytes (bytes_of m) next ≡ read.Record m next
+  bytes_read : (next : ℕ) → allowed m ≡ true → read_bytes (bytes_of m) next ≡ Ok (m, next)
   bytes_read next h =
       accepted (bytes_of m) next (omega arith) refl (kind_allowed m h) (ap allowed message_back ∙ h)
-      ∙ ap (λ (x : Message). read.Record x next) message_back
+      ∙ ap (λ (x : Message). Ok (x, next)) message_back
 
   eleven_there : (p q : List ℕ) (at : ℕ) → length p ≡ at → take 11 (drop at (p ++ (bytes_of m ++ q))) ≡ bytes_of m
   eleven_there p q at e = ap (take 11) (drop_at p (bytes_of m ++ q) at e) ∙ take_at (bytes_of m) q 11 refl
 
   -- A message the record allows, written and read at the same place, is that message and the next place.
-  pub put_then_read : (at : ℕ) (l : List ℕ) (next : ℕ) → put_answer m at l ≡ put.Next next
-      → read_at (put_content m at l) at ≡ read.Record m next
+  pub put_then_read : (at : ℕ) (l : List ℕ) (next : ℕ) → put_answer m at l ≡ Ok next
+      → read_at (put_content m at l) at ≡ Ok (m, next)
   put_then_read at l next e =
       let t = lent.accepted m at l next e in
       rw (e, t.2, eleven_there (take at l) (drop (at + 11) l) at (length-take-le at l (omega arith)))
@@ -72,12 +69,12 @@ module _ (m : Message) (fits : m.number < 256 ^ 4) where
 
 -- ---- one rule
 abbrev pub taken : Read → Bool
-taken (read.Record m next) = true
-taken (read.Refused refusal) = false
+taken (Ok (m, next)) = true
+taken (Err refusal) = false
 
 abbrev pub wrote : Put → Bool
-wrote (put.Next next) = true
-wrote (put.Refused refusal) = false
+wrote (Ok next) = true
+wrote (Err refusal) = false
 
 module _ (m : Message) (fits : m.number < 256 ^ 4) where
   judged : (next : ℕ) (t u : Bool) → allowed m ≡ t → is_kind m.kind ≡ u → taken (read_bytes (bytes_of m) next) ≡ t
@@ -111,7 +108,7 @@ unfolding firsts
 firsts_is zero j l h = refl
 firsts_is (suc n) j l h = rw (drop-cons l j 0 (omega arith), firsts_is n (suc j) l (omega arith))
 
-module _ (s : List ℕ) (byte : (i : ℕ) → get_or s i 0 < 256) (at : ℕ) (m : Message) (next : ℕ) (e : read_at s at ≡ read.Record m next) where
+module _ (s : List ℕ) (byte : (i : ℕ) → get_or s i 0 < 256) (at : ℕ) (m : Message) (next : ℕ) (e : read_at s at ≡ Ok (m, next)) where
   abbrev eleven : List ℕ
   eleven = take 11 (drop at s)
 
@@ -140,11 +137,11 @@ module _ (s : List ℕ) (byte : (i : ℕ) → get_or s i 0 < 256) (at : ℕ) (m 
       ∙ rw (← f, ← g) (sym spelled)
 
   -- .. and so leaves the bytes that it was read from as they are.
-  pub written_anew : (put_answer m at s ≡ put.Next next) × (put_content m at s ≡ s)
+  pub written_anew : (put_answer m at s ≡ Ok next) × (put_content m at s ≡ s)
   written_anew =
       let good = known.good in
       let room = le-ltb (length s) (at + 11) there in
-      (simp (good, room) (ap put.Next known.place), simp (good, room) same)
+      (simp (good, room) (ap Ok known.place), simp (good, room) same)
     where
       same : take at s ++ (bytes_of m ++ drop (at + 11) s) ≡ s
       same =
@@ -153,8 +150,8 @@ module _ (s : List ℕ) (byte : (i : ℕ) → get_or s i 0 < 256) (at : ℕ) (m 
 
 -- ---- the eleven bytes alone
 abbrev pub next_at : ℕ → Read → Read
-next_at next (read.Record m n) = read.Record m next
-next_at next (read.Refused refusal) = read.Refused refusal
+next_at next (Ok (m, n)) = Ok (m, next)
+next_at next (Err refusal) = Err refusal
 
 next_apart : (b : List ℕ) (k n : ℕ) → next_at k (read_bytes b n) ≡ read_bytes b k
 unfolding read_bytes
