@@ -6,9 +6,7 @@ use Prim.Native.Nat.{ℕ, ◌<◌}
 use native.Mathlib.Omega.{arith}
 use lib.Dec.{eqb}
 use borrow.Author.Tests.{eqb-true, ne_eqb, not-false}
-use Rattle.members.specs.Mark.{Mark, Unmarked, Demanded, Kept, Marked, none_word, kept_word, as_word, as_mark, is_marked, wipe_mark, drop_kept, demand, keep_mark, mark_test}
-use Rattle.members.specs.declared.mark.Which.{Which}
-use Rattle.members.specs.declared.mark.Which.TheVariants as which
+use Rattle.members.specs.Mark.{Mark, Unmarked, Demanded, Kept, Marked, none_word, kept_word, as_word, as_mark, is_marked, wipe_mark, drop_kept, demand, keep_mark}
 
 pub word_back : (m : Marked) → as_word (as_mark m) ≡ m
 word_back m = by_tests (eqb m.word none_word) (eqb m.word kept_word) refl refl
@@ -56,10 +54,6 @@ stored_demand now h Kept s = stored_since now h
 pub unmarked_word : (m : Marked) → is_marked m ≡ false → m ≡ as_word Unmarked
 unmarked_word m e = λ i. record { word = eqb-true m.word none_word (not-false (eqb m.word none_word) e) i }
 
--- what is not there is none of those asked for
-pub unmarked_test : (w : Which) (m : Marked) → is_marked m ≡ false → mark_test w (as_mark m) ≡ false
-unmarked_test w m e = ap (λ (m : Marked). mark_test w (as_mark m)) (unmarked_word m e) ∙ none w
-  where
-    none : (w : Which) → mark_test w Unmarked ≡ false
-    none which.Kept = refl
-    none (which.Late now answer) = refl
+-- what is not there passes no test that no mark at all fails
+pub unmarked_test : (test : Mark → Bool) → test Unmarked ≡ false → (m : Marked) → is_marked m ≡ false → test (as_mark m) ≡ false
+unmarked_test test none m e = ap (λ (m : Marked). test (as_mark m)) (unmarked_word m e) ∙ none

@@ -12,11 +12,11 @@ use lib.Seq.{drop-cons}
 use lib.Dec.{eqb}
 use borrow.Author.Tests.{eqb-true, not-false}
 use Rattle.masks.specs.Mask.{Set, mask, either, some_under}
-use Rattle.masks.proofs.Laws.{under_in, mask_either, none_under}
+use Rattle.masks.proofs.Laws.{under_in, mask_either, none_under, none_of}
 use Rattle.modes.specs.declared.Mode.{Mode}
 use Rattle.members.specs.declared.mark.Marked.{Marked}
-use Rattle.members.specs.Mark.{is_marked}
-use Rattle.members.proofs.Words.{unmarked_word}
+use Rattle.members.specs.Mark.{is_marked, as_mark}
+use Rattle.members.proofs.Words.{unmarked_word, unmarked_test}
 use Rattle.profiles.specs.Profile.{Profile, no_profile}
 use Rattle.profiles.specs.Sets.{is_late, marks_with, late_set, only, only_of, wiped, wipe_mark, keep_mark, remark, no_mode, marks_changed}
 use Rattle.profiles.specs.Under.{is_held, wiped_under, kept_under, touched_under}
@@ -81,6 +81,12 @@ only_mask i h = sym (mask_only 16 i h)
 
 pub only_beyond : (i : ℕ) → 16 ≤ i → 0 ≡ mask (only i)
 only_beyond i h = sym (mask_beyond 16 i h)
+
+-- where no mark is there, none is late
+pub none_late : (answer now : ℕ) (marks : List Marked) → length marks ≡ 16 → some_under is_marked 65535 marks ≡ false
+    → 0 ≡ mask (marks_with (is_late answer now) marks)
+none_late answer now marks l e =
+    sym (none_of is_marked (λ (m : Marked). is_late answer now (as_mark m)) (unmarked_test (is_late answer now) refl) 16 marks (omega arith) e)
 
 -- one profile more among those with late marks
 module _ (answer now : ℕ) where

@@ -11,6 +11,7 @@ pub enum Answer {
     Wait(u8, Mode, u64, u32),
     // Profile.
     InUse(u8),
+    // Kept: a number, as the detail is the byte of the record, and the theorems on what a station is told name `Nack 0` and `Nack 1`.
     Nack(u8),
     // The stations freed and those that start timing out.
     Ticked(u64, u64),
