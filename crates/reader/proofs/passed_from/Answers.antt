@@ -5,16 +5,16 @@ use Rattle.reader.specs.Reader.{passing}
 use Rattle.reader.proofs.Passing.{lies, passes, stops}
 use Rattle.reader.proofs.passed_from.Goals as goal
 
-pub returns-in-Refused : goal.returns-in-Refused
-returns-in-Refused c =
+pub returns-in-Err : goal.returns-in-Err
+returns-in-Err c =
     let s = c.args.s.now in
     let l = c.loop-place in
-    let e = sym (said_read_injective _ _ c.in-Refused.ensures) in
+    let e = sym (said_read_injective _ _ c.in-Err.ensures) in
     sym (l.invariant.passed ∙ stops (length s - l.count) l.count s l.next _ e)
 
 pub loop-place-smaller : goal.loop-place-smaller
 loop-place-smaller c =
-    let e = sym (said_read_injective _ _ c.in-Record.ensures) in
+    let e = sym (said_read_injective _ _ c.in-Ok.ensures) in
     let h = lies c.args.s.now c.loop-place.next _ _ e in
     omega arith
 
@@ -22,8 +22,8 @@ pub loop-place-preserved : goal.loop-place-preserved
 loop-place-preserved c =
     let s = c.args.s.now in
     let l = c.loop-place in
-    let place = c.in-Record.place in
-    let e = sym (said_read_injective _ _ c.in-Record.ensures) in
+    let place = c.in-Ok.place in
+    let e = sym (said_read_injective _ _ c.in-Ok.ensures) in
     let h = lies s l.next _ _ e in
     let left : length s - l.count ≡ suc (length s - (l.count + 1)) = omega arith in
     record {
