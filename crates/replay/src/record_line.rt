@@ -1,0 +1,73 @@
+// The lines that read and write a record.
+use crate::hex::{Bytes, MOST, bytes_of};
+use crate::reply::Reply;
+use crate::words::Words;
+use record::{Message, Read};
+use writer::Put;
+
+// What the buffer of a `write` line holds before it.
+const UNWRITTEN: u8 = 0xEE;
+
+// The bytes received, and the place of a record among them.
+#[derive(Drop)]
+pub(crate) struct ReadLine {
+    received: Bytes,
+    place: usize,
+}
+
+impl ReadLine {
+    // After the word `read`.
+    pub(crate) fn said(words: &mut Words) -> Option<ReadLine> {
+        Some(ReadLine {
+            received: bytes_of(words.word()?)?,
+            place: words.number()?,
+        })
+    }
+
+    pub(crate) fn reply(&self) -> Reply {
+        match record::record_at(self.received.as_slice(), self.place) {
+            Read::Record(message, next) => Reply::Message(message, next),
+            Read::Refused(refusal) => Reply::Refused(refusal),
+        }
+    }
+}
+
+// The buffer's length, the place to write at, and the message.
+#[derive(Clone, Copy)]
+pub(crate) struct WriteLine {
+    room: usize,
+    place: usize,
+    message: Message,
+}
+
+impl WriteLine {
+    // After the word `write`.
+    pub(crate) fn said(words: &mut Words) -> Option<WriteLine> {
+        Some(WriteLine {
+            room: words.number().filter(|room| *room <= MOST)?,
+            place: words.number()?,
+            message: message(words)?,
+        })
+    }
+
+    pub(crate) fn reply(self) -> Reply {
+        let mut buffer = Bytes::from([UNWRITTEN; MOST]);
+        buffer.truncate(self.room);
+        match writer::put_at(buffer.as_mut_slice(), self.place, self.message) {
+            Put::Next(next) => Reply::Written(next, buffer),
+            Put::Refused(refusal) => Reply::Unwritten(refusal, buffer),
+        }
+    }
+}
+
+// The six fields, as they are.
+fn message(words: &mut Words) -> Option<Message> {
+    Some(Message {
+        kind: words.number()?,
+        station: words.number()?,
+        number: words.number()?,
+        profile: words.number()?,
+        mode: words.number()?,
+        detail: words.number()?,
+    })
+}

@@ -1,0 +1,60 @@
+// What a room answers.
+use station::event::{Advice, Answer, PhaseAnswer, Request, UseAnswer};
+use std::fmt;
+
+#[derive(Clone, Copy)]
+pub(crate) enum RoomReply {
+    // To an event, with the lost profiles as a mask and their count.
+    Event(Answer, u64, u32),
+    Phase(PhaseAnswer),
+    Use(UseAnswer),
+}
+
+impl fmt::Display for RoomReply {
+    fn fmt<W: fmt::Write>(&self, f: &mut fmt::Formatter<W>) -> fmt::Result {
+        match *self {
+            RoomReply::Event(answer, lost, count) => {
+                write!(f, "{} lost {lost} count {count}", EventReply(answer))
+            }
+            RoomReply::Phase(PhaseAnswer::Phase(phase)) => write!(f, "phase {phase}"),
+            RoomReply::Phase(PhaseAnswer::Out) => write!(f, "phase out"),
+            RoomReply::Phase(PhaseAnswer::Refused(refusal)) => write!(f, "refused {refusal}"),
+            RoomReply::Use(UseAnswer::Yes) => write!(f, "use yes"),
+            RoomReply::Use(UseAnswer::No) => write!(f, "use no"),
+            RoomReply::Use(UseAnswer::Refused(refusal)) => write!(f, "refused {refusal}"),
+        }
+    }
+}
+
+#[derive(Clone, Copy)]
+struct EventReply(Answer);
+
+impl fmt::Display for EventReply {
+    fn fmt<W: fmt::Write>(&self, f: &mut fmt::Formatter<W>) -> fmt::Result {
+        match self.0 {
+            Answer::Done => write!(f, "done"),
+            Answer::Sent(number, request) => write!(f, "sent {}", Sent(number, request)),
+            Answer::Advice(Advice::Keep) => write!(f, "advice keep"),
+            Answer::Advice(Advice::WriteOut) => write!(f, "advice write"),
+            Answer::Advice(Advice::Release) => write!(f, "advice release"),
+            Answer::Refused(refusal) => write!(f, "refused {refusal}"),
+        }
+    }
+}
+
+// A message to send, with its number.
+#[derive(Clone, Copy)]
+struct Sent(u32, Request);
+
+impl fmt::Display for Sent {
+    fn fmt<W: fmt::Write>(&self, f: &mut fmt::Formatter<W>) -> fmt::Result {
+        let number = self.0;
+        match self.1 {
+            Request::Hello => write!(f, "hello {number}"),
+            Request::KeepAlive => write!(f, "keepalive {number}"),
+            Request::Ask(profile, mode) => write!(f, "ask {number} {profile} {}", mode.0),
+            Request::Release(profile) => write!(f, "release {number} {profile}"),
+            Request::Keep(profile) => write!(f, "keep {number} {profile}"),
+        }
+    }
+}
