@@ -1,10 +1,10 @@
 // The server and the rooms.
 use crate::reply::Reply;
-use crate::room_line::{RoomLine, Said};
-use crate::room_reply::RoomReply;
+use crate::room_line::{RoomLine, Turn};
+use crate::room_reply::{EventReply, RoomReply};
+use crate::server_line::ServerLine;
 use crate::server_reply::ServerReply;
-use server::event::Event;
-use server::server::Server;
+use server::server::{Server, step_in};
 use station::station::Station;
 use timing::settings::Settings;
 
@@ -23,23 +23,20 @@ impl Engines {
         }
     }
 
-    pub(crate) fn serve(&mut self, reading: u64, event: Event) -> Reply {
-        let after = self.server.step(reading, event);
-        self.server = after.server;
-        Reply::Server(ServerReply(after.answer))
+    pub(crate) fn serve(&mut self, line: ServerLine) -> Reply {
+        Reply::Server(ServerReply(step_in(&mut self.server, line.reading, line.event)))
     }
 
-    pub(crate) fn ask_room(&mut self, line: RoomLine) -> Reply {
+    pub(crate) fn turn(&mut self, line: RoomLine) -> Reply {
         let room = &mut self.rooms[usize::from(line.room.number)];
-        let reading = line.reading;
-        Reply::Room(match line.said {
-            Said::Event(event) => {
-                let after = room.step(reading, event);
+        Reply::Room(match line.turn {
+            Turn::Event(event) => {
+                let after = room.step(line.reading, event);
                 *room = after.station;
-                RoomReply::Event(after.answer, after.lost, after.count)
+                RoomReply::Event(EventReply(after.answer), after.lost, after.count)
             }
-            Said::Phase => RoomReply::Phase(room.phase(reading)),
-            Said::Use(profile) => RoomReply::Use(room.may_use(reading, profile)),
+            Turn::Phase => RoomReply::Phase(room.phase(line.reading)),
+            Turn::Use(profile) => RoomReply::Use(room.may_use(line.reading, profile)),
         })
     }
 }

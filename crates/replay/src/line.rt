@@ -1,7 +1,7 @@
 // Which line it is, and what stands in it.
 use crate::record_line::{ReadLine, WriteLine};
 use crate::room_line::RoomLine;
-use crate::server_line;
+use crate::server_line::ServerLine;
 use crate::words::Words;
 use timing::settings::Settings;
 
@@ -10,22 +10,28 @@ pub(crate) enum Line {
     // An empty line or a comment.
     Silent,
     Settings(Settings),
-    // A reading and an event.
-    Server(u64, server::event::Event),
+    Server(ServerLine),
     Room(RoomLine),
-    // The last wide reading and the counter.
-    Widen(u64, u32),
-    // The lease start, its length and the reading.
-    Left(u64, u64, u64),
+    // The last wide reading, and the counter.
+    Widen {
+        last: u64,
+        counter: u32,
+    },
+    // The ticks left of a lease.
+    Left {
+        start: u64,
+        length: u64,
+        reading: u64,
+    },
     Read(ReadLine),
     Write(WriteLine),
 }
 
 impl Line {
-    // The most bytes of a line, but for a comment, which may have any length.
+    // The most bytes of a line. A comment may have any number of them.
     pub(crate) const LONGEST: usize = 1023;
 
-    // What a line says; nothing where it is none of the language.
+    // What a line says, or nothing where it has no form of the language.
     pub(crate) fn of(line: &[u8]) -> Option<Line> {
         if let [] | [b'#', ..] = line {
             return Some(Line::Silent);
@@ -34,29 +40,33 @@ impl Line {
             return None;
         }
         let mut words = Words::of(str::from_utf8(line).ok()?);
-        let said = Line::said(&mut words)?;
+        let said = Line::parse(&mut words)?;
         words.is_over().then_some(said)
     }
 
-    // By its first word, with as many of the words after it as the line has to have.
-    fn said(words: &mut Words) -> Option<Line> {
+    // The first word says how many have to come after it, and the words that follow may say so more closely.
+    fn parse(words: &mut Words) -> Option<Line> {
         Some(match words.word()? {
             "settings" => Line::Settings(settings(words)?),
-            "server" => {
-                let (reading, event) = server_line::said(words)?;
-                Line::Server(reading, event)
-            }
-            "room" => Line::Room(RoomLine::said(words)?),
-            "widen" => Line::Widen(words.number()?, words.number()?),
-            "left" => Line::Left(words.number()?, words.number()?, words.number()?),
-            "read" => Line::Read(ReadLine::said(words)?),
-            "write" => Line::Write(WriteLine::said(words)?),
+            "server" => Line::Server(ServerLine::parse(words)?),
+            "room" => Line::Room(RoomLine::parse(words)?),
+            "widen" => Line::Widen {
+                last: words.number()?,
+                counter: words.number()?,
+            },
+            "left" => Line::Left {
+                start: words.number()?,
+                length: words.number()?,
+                reading: words.number()?,
+            },
+            "read" => Line::Read(ReadLine::parse(words)?),
+            "write" => Line::Write(WriteLine::parse(words)?),
             _ => return None,
         })
     }
 }
 
-// The nine numbers of the settings.
+// The nine numbers, whatever they are.
 fn settings(words: &mut Words) -> Option<Settings> {
     Some(Settings::new(
         words.number()?,

@@ -7,6 +7,7 @@ use std::io;
 use std::io::{BufWriter, Read, Write};
 use timing::lease::Lease;
 use timing::reading::Reading;
+use timing::settings::Settings;
 
 // Before the first settings line there are no engines.
 #[derive(Drop)]
@@ -15,34 +16,40 @@ struct Player {
 }
 
 impl Player {
-    // What is printed for a line: nothing for a silent one and for settings, which make the engines anew.
+    // This stands apart, so that no other line pays for the memory in which new engines are put together.
+    #[cold]
+    #[inline(never)]
+    fn set(&mut self, settings: Settings) {
+        self.engines = Some(Engines::new(settings));
+    }
+
+    // What is printed for a line, if anything is.
     fn reply(&mut self, line: &[u8]) -> Option<Reply> {
         let Some(line) = Line::of(line) else {
             return Some(Reply::Bad);
         };
+        let engines = self.engines.as_mut();
         Some(match line {
             Line::Silent => return None,
             Line::Settings(settings) => {
-                self.engines = Some(Engines::new(settings));
+                self.set(settings);
                 return None;
             }
-            Line::Server(reading, event) => match &mut self.engines {
-                Some(engines) => engines.serve(reading, event),
-                None => Reply::NoSettings,
-            },
-            Line::Room(line) => match &mut self.engines {
-                Some(engines) => engines.ask_room(line),
-                None => Reply::NoSettings,
-            },
-            Line::Widen(last, counter) => Reading::widen(last, counter).into(),
-            Line::Left(start, length, reading) => Lease::left(start, length, reading).into(),
+            Line::Server(line) => engines.map_or(Reply::NoSettings, |engines| engines.serve(line)),
+            Line::Room(line) => engines.map_or(Reply::NoSettings, |engines| engines.turn(line)),
+            Line::Widen { last, counter } => Reading::widen(last, counter).into(),
+            Line::Left {
+                start,
+                length,
+                reading,
+            } => Lease::left(start, length, reading).into(),
             Line::Read(line) => line.reply(),
             Line::Write(line) => line.reply(),
         })
     }
 }
 
-// What was answered is written out before it waits for more input.
+// What was answered is written out before more input is waited for. Lines are counted so that this ends whatever the input.
 pub(crate) fn play<R: Read + Drop, W: Write + Drop>(
     mut script: Script<R>,
     mut answers: BufWriter<W>,

@@ -8,7 +8,7 @@ use writer::Put;
 // What the buffer of a `write` line holds before it.
 const UNWRITTEN: u8 = 0xEE;
 
-// The bytes received, and the place of a record among them.
+// The bytes that were received, and the place of a record among them.
 #[derive(Drop)]
 pub(crate) struct ReadLine {
     received: Bytes,
@@ -17,7 +17,7 @@ pub(crate) struct ReadLine {
 
 impl ReadLine {
     // After the word `read`.
-    pub(crate) fn said(words: &mut Words) -> Option<ReadLine> {
+    pub(crate) fn parse(words: &mut Words) -> Option<ReadLine> {
         Some(ReadLine {
             received: bytes_of(words.word()?)?,
             place: words.number()?,
@@ -32,7 +32,7 @@ impl ReadLine {
     }
 }
 
-// The buffer's length, the place to write at, and the message.
+// How many bytes the buffer has, the place to write at, and what to write there.
 #[derive(Clone, Copy)]
 pub(crate) struct WriteLine {
     room: usize,
@@ -42,7 +42,7 @@ pub(crate) struct WriteLine {
 
 impl WriteLine {
     // After the word `write`.
-    pub(crate) fn said(words: &mut Words) -> Option<WriteLine> {
+    pub(crate) fn parse(words: &mut Words) -> Option<WriteLine> {
         Some(WriteLine {
             room: words.number().filter(|room| *room <= MOST)?,
             place: words.number()?,

@@ -24,8 +24,9 @@ impl Room {
     }
 }
 
+// An event of the room, or a question to it.
 #[derive(Clone, Copy)]
-pub(crate) enum Said {
+pub(crate) enum Turn {
     Event(Event),
     Phase,
     // Whether it may use a profile.
@@ -36,33 +37,32 @@ pub(crate) enum Said {
 pub(crate) struct RoomLine {
     pub(crate) room: Room,
     pub(crate) reading: u64,
-    pub(crate) said: Said,
+    pub(crate) turn: Turn,
 }
 
 impl RoomLine {
     // After the word `room`.
-    pub(crate) fn said(words: &mut Words) -> Option<RoomLine> {
+    pub(crate) fn parse(words: &mut Words) -> Option<RoomLine> {
         Some(RoomLine {
             room: Room::new(words.number()?)?,
             reading: words.number()?,
-            said: Said::of(words)?,
+            turn: Turn::parse(words)?,
         })
     }
 }
 
-impl Said {
+impl Turn {
     // After the reading.
-    fn of(words: &mut Words) -> Option<Said> {
-        let name = words.word()?;
-        Some(match name {
-            "phase" => Said::Phase,
-            "use" => Said::Use(words.number()?),
-            _ => Said::Event(event(name, words)?),
+    fn parse(words: &mut Words) -> Option<Turn> {
+        Some(match words.word()? {
+            "phase" => Turn::Phase,
+            "use" => Turn::Use(words.number()?),
+            name => Turn::Event(event(name, words)?),
         })
     }
 }
 
-// What happens to the room, by its name, with the words after it.
+// By its name, with the words after it.
 fn event(name: &str, words: &mut Words) -> Option<Event> {
     Some(match name {
         "begin" => Event::Begin(words.number()?, Mode(words.number()?)),
@@ -77,7 +77,7 @@ fn event(name: &str, words: &mut Words) -> Option<Event> {
     })
 }
 
-// What a server's message to the room says, after its number.
+// After the message's number.
 fn ack(words: &mut Words) -> Option<Ack> {
     Some(match words.word()? {
         "done" => Ack::Done,

@@ -5,7 +5,7 @@ use std::fmt;
 #[derive(Clone, Copy)]
 pub(crate) enum RoomReply {
     // To an event, with the lost profiles as a mask and their count.
-    Event(Answer, u64, u32),
+    Event(EventReply, u64, u32),
     Phase(PhaseAnswer),
     Use(UseAnswer),
 }
@@ -13,9 +13,7 @@ pub(crate) enum RoomReply {
 impl fmt::Display for RoomReply {
     fn fmt<W: fmt::Write>(&self, f: &mut fmt::Formatter<W>) -> fmt::Result {
         match *self {
-            RoomReply::Event(answer, lost, count) => {
-                write!(f, "{} lost {lost} count {count}", EventReply(answer))
-            }
+            RoomReply::Event(reply, lost, count) => write!(f, "{reply} lost {lost} count {count}"),
             RoomReply::Phase(PhaseAnswer::Phase(phase)) => write!(f, "phase {phase}"),
             RoomReply::Phase(PhaseAnswer::Out) => write!(f, "phase out"),
             RoomReply::Phase(PhaseAnswer::Refused(refusal)) => write!(f, "refused {refusal}"),
@@ -27,7 +25,7 @@ impl fmt::Display for RoomReply {
 }
 
 #[derive(Clone, Copy)]
-struct EventReply(Answer);
+pub(crate) struct EventReply(pub(crate) Answer);
 
 impl fmt::Display for EventReply {
     fn fmt<W: fmt::Write>(&self, f: &mut fmt::Formatter<W>) -> fmt::Result {

@@ -1,23 +1,28 @@
-// The lines of the server, and what a station's message asks, in the words that they share with the lines of a room.
+// The lines of the server, and what a station's message asks, in the words that a room's lines share with them.
 use crate::words::Words;
 use modes::Mode;
 use requests::Request;
 use server::event::Event;
 
-// After the word `server`: a reading and an event.
-pub(crate) fn said(words: &mut Words) -> Option<(u64, Event)> {
-    let reading = words.number()?;
-    let name = words.word()?;
-    if name == "tick" {
-        return Some((reading, Event::Tick));
-    }
-    let station = words.number()?;
-    let number = words.number()?;
-    let request = request(name, words)?;
-    Some((reading, Event::Message(station, number, request)))
+#[derive(Clone, Copy)]
+pub(crate) struct ServerLine {
+    pub(crate) reading: u64,
+    pub(crate) event: Event,
 }
 
-// What a message asks, by its name, with the words after it.
+impl ServerLine {
+    // After the word `server`.
+    pub(crate) fn parse(words: &mut Words) -> Option<ServerLine> {
+        let reading = words.number()?;
+        let event = match words.word()? {
+            "tick" => Event::Tick,
+            name => Event::Message(words.number()?, words.number()?, request(name, words)?),
+        };
+        Some(ServerLine { reading, event })
+    }
+}
+
+// What a message asks, by its name, with the profile and the mode after it.
 pub(crate) fn request(name: &str, words: &mut Words) -> Option<Request> {
     Some(match name {
         "hello" => Request::Hello,

@@ -11,7 +11,11 @@ impl fmt::Display for ServerReply {
             Answer::Done => write!(f, "ack done"),
             Answer::Granted(profile, mode) => write!(f, "ack granted {profile} {}", mode.0),
             Answer::Wait(profile, mode, mask, count) => {
-                write!(f, "ack wait {profile} demand {} mask {mask} count {count}", mode.0)
+                write!(
+                    f,
+                    "ack wait {profile} demand {} mask {mask} count {count}",
+                    mode.0
+                )
             }
             Answer::InUse(profile) => write!(f, "ack inuse {profile}"),
             Answer::Nack(detail) => write!(f, "nack {detail}"),

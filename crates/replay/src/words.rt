@@ -9,11 +9,12 @@ impl<'a> Words<'a> {
         Words(line.split(' '))
     }
 
+    // The next word. It is empty where two spaces follow one another, and at a space at the line's front or end.
     pub(crate) fn word(&mut self) -> Option<&'a str> {
         self.0.next()
     }
 
-    // A number in decimal, with no sign before it, that fits its type.
+    // The next word as a number in decimal that fits its type. Numbers have no sign here, while `parse` allows a plus.
     pub(crate) fn number<N: FromStr>(&mut self) -> Option<N>
     where
         N::Err: Drop,
@@ -25,7 +26,7 @@ impl<'a> Words<'a> {
         word.parse().ok()
     }
 
-    // Whether every word has been taken.
+    // Whether the line has no word after those that were taken.
     pub(crate) fn is_over(mut self) -> bool {
         self.word().is_none()
     }
