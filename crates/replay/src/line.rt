@@ -44,7 +44,7 @@ impl Line {
         words.is_over().then_some(said)
     }
 
-    // The first word says how many have to come after it, and the words that follow may say so more closely.
+    // By its first word. Each form takes the words that it has, so that a word left over makes a bad line.
     fn parse(words: &mut Words) -> Option<Line> {
         Some(match words.word()? {
             "settings" => Line::Settings(settings(words)?),
