@@ -12,14 +12,18 @@ pub(crate) struct Sum {
 }
 
 impl Sum {
+    pub(crate) fn new() -> Sum {
+        Sum { value: 0 }
+    }
+
     // Of what the answers to so many events, counted from 0, come to.
     pub(crate) fn of<F: FnMut(u64) -> u64>(count: u64, answer: F) -> Sum
         requires { (state : F) (n : _) → F.pre state n }
     {
-        (0..count).map(answer).fold(Sum { value: 0 }, Sum::plus)
+        (0..count).map(answer).fold(Sum::new(), Sum::plus)
     }
 
-    fn plus(self, value: u64) -> Sum {
+    pub(crate) fn plus(self, value: u64) -> Sum {
         Sum {
             value: (self.value + value % PRIME) % PRIME,
         }
