@@ -1,67 +1,93 @@
-// Plain words and numbers on standard output.
-use std::io;
+// How a row is printed, and in it what the engines answer.
+use record::Message;
+use server::event::Answer;
+use station::event::PhaseAnswer;
 use std::io::Print;
+use std::{fmt, io};
+use timing::lease::Left;
 
-pub(crate) fn text(rt: &impl Print, words: &[u8]) -> io::Result<()> {
-    rt.write_all(words)
+// A row: what is asked, what it should be, and what it was.
+pub(crate) fn row(
+    rt: &impl Print,
+    name: &str,
+    asked: u64,
+    should: &str,
+    was: impl fmt::Display + Drop,
+) -> io::Result<()> {
+    println!(rt; "{name} {asked}: should be {should}, was {was}")
 }
 
-pub(crate) fn number(rt: &impl Print, n: u64) -> io::Result<()> {
-    print!(rt; "{n}")
-}
+// A refusal, by its number.
+#[derive(Drop)]
+pub(crate) struct Refused(pub(crate) u8);
 
-pub(crate) fn line_end(rt: &impl Print) -> io::Result<()> {
-    text(rt, b"\n")
-}
-
-// The front of a line: what is asked, and what it should be.
-pub(crate) fn should_be(rt: &impl Print, name: &[u8], n: u64, should: &[u8]) -> io::Result<()> {
-    text(rt, name)?;
-    number(rt, n)?;
-    text(rt, b": should be ")?;
-    text(rt, should)?;
-    text(rt, b", was ")
-}
-
-pub(crate) fn refused(rt: &impl Print, n: u8) -> io::Result<()> {
-    text(rt, b"refused ")?;
-    number(rt, n as u64)
-}
-
-// The cases have no other number of ticks.
-pub(crate) fn signed(rt: &impl Print, n: i64) -> io::Result<()> {
-    if n == 0 {
-        text(rt, b"0")
-    } else if n == -1 {
-        text(rt, b"-1")
-    } else {
-        text(rt, b"another number")
+impl fmt::Display for Refused {
+    fn fmt<W: fmt::Write>(&self, f: &mut fmt::Formatter<W>) -> fmt::Result {
+        write!(f, "refused {}", self.0)
     }
 }
 
-fn glyph(n: u8) -> u8 {
-    let low = n % 16;
-    if low < 10 {
-        return low + 48;
-    }
-    low + 55
-}
+#[derive(Drop)]
+pub(crate) struct Phase(pub(crate) PhaseAnswer);
 
-fn digit(rt: &impl Print, n: u8) -> io::Result<()> {
-    let one = [glyph(n)];
-    text(rt, &one)
-}
-
-// Eleven bytes in upper case, a space between two.
-pub(crate) fn bytes(rt: &impl Print, buf: [u8; 11]) -> io::Result<()> {
-    let mut i: usize = 0;
-    while i < 11 {
-        if 0 < i {
-            text(rt, b" ")?;
+impl fmt::Display for Phase {
+    fn fmt<W: fmt::Write>(&self, f: &mut fmt::Formatter<W>) -> fmt::Result {
+        match self.0 {
+            PhaseAnswer::Phase(phase) => write!(f, "{phase}"),
+            PhaseAnswer::Out => write!(f, "out"),
+            PhaseAnswer::Refused(refusal) => Refused(refusal).fmt(f),
         }
-        digit(rt, buf[i] / 16)?;
-        digit(rt, buf[i])?;
-        i += 1;
+    }
+}
+
+#[derive(Drop)]
+pub(crate) struct TicksLeft(pub(crate) Left);
+
+impl fmt::Display for TicksLeft {
+    fn fmt<W: fmt::Write>(&self, f: &mut fmt::Formatter<W>) -> fmt::Result {
+        match self.0 {
+            Left::Ticks(ticks) => write!(f, "{ticks}"),
+            Left::Refused(refusal) => Refused(refusal).fmt(f),
+        }
+    }
+}
+
+// The bytes of a record in upper case, a space between two, or the refusal of its message.
+#[derive(Drop)]
+pub(crate) struct Record(pub(crate) Result<[u8; Message::LENGTH], u8>);
+
+impl fmt::Display for Record {
+    fn fmt<W: fmt::Write>(&self, f: &mut fmt::Formatter<W>) -> fmt::Result {
+        match &self.0 {
+            Ok(bytes) => write_bytes(f, bytes),
+            Err(refusal) => Refused(*refusal).fmt(f),
+        }
+    }
+}
+
+fn write_bytes<W: fmt::Write>(f: &mut fmt::Formatter<W>, bytes: &[u8]) -> fmt::Result {
+    for (i, byte) in bytes.iter().enumerate() {
+        let space = if i == 0 { "" } else { " " };
+        write!(f, "{space}{byte:02X}")?;
     }
     Ok(())
+}
+
+#[derive(Drop)]
+pub(crate) struct Served(pub(crate) Answer);
+
+impl fmt::Display for Served {
+    fn fmt<W: fmt::Write>(&self, f: &mut fmt::Formatter<W>) -> fmt::Result {
+        match self.0 {
+            Answer::Done => write!(f, "done"),
+            Answer::Granted(profile, mode) => write!(f, "granted {profile} mode {}", mode.0),
+            Answer::Wait(profile, _, mask, count) => {
+                write!(f, "wait {profile} mask {mask} count {count}")
+            }
+            Answer::InUse(profile) => write!(f, "in use {profile}"),
+            Answer::Nack(detail) => write!(f, "NACK {detail}"),
+            Answer::Ticked(freed, started) => write!(f, "freed {freed} started {started}"),
+            Answer::Refused(refusal) => Refused(refusal).fmt(f),
+        }
+    }
 }

@@ -20,3 +20,8 @@ pub(crate) fn settings() -> Settings {
 pub(crate) fn number(n: u64) -> u32 {
     (n % 4_294_967_296) as u32
 }
+
+// What a refusal adds to a sum.
+pub(crate) fn refused(code: u8) -> u64 {
+    100 + u64::from(code)
+}

@@ -88,10 +88,6 @@ fn number(n: u64) -> u32 {
     ground::number(n / 2 + 3)
 }
 
-fn refused_value(code: u8) -> u64 {
-    100 + u64::from(code)
-}
-
 fn answer_value(answer: Answer) -> u64 {
     match answer {
         Answer::Sent(number, _) => u64::from(number) % 65_536,
@@ -99,7 +95,7 @@ fn answer_value(answer: Answer) -> u64 {
         Answer::Advice(Advice::Keep) => 2,
         Answer::Advice(Advice::WriteOut) => 3,
         Answer::Advice(Advice::Release) => 4,
-        Answer::Refused(code) => refused_value(code),
+        Answer::Refused(code) => ground::refused(code),
     }
 }
 
@@ -107,7 +103,7 @@ fn phase_value(answer: PhaseAnswer) -> u64 {
     match answer {
         PhaseAnswer::Phase(phase) => u64::from(phase),
         PhaseAnswer::Out => 5,
-        PhaseAnswer::Refused(code) => refused_value(code),
+        PhaseAnswer::Refused(code) => ground::refused(code),
     }
 }
 
@@ -115,7 +111,7 @@ fn use_value(answer: UseAnswer) -> u64 {
     match answer {
         UseAnswer::Yes => 1,
         UseAnswer::No => 2,
-        UseAnswer::Refused(code) => refused_value(code),
+        UseAnswer::Refused(code) => ground::refused(code),
     }
 }
 
@@ -125,8 +121,8 @@ pub(crate) fn turns(turn: Turn, count: u64) -> Sum {
     let mut sum = Sum::new();
     for n in 0..count {
         let after = room.step(100, turn.event(n));
-        room = after.station;
         sum = sum.plus(answer_value(after.answer));
+        room = after.station;
     }
     sum
 }
