@@ -25,7 +25,12 @@ impl TryFrom<u64> for Kind {
         match number {
             0..=9 => Ok(Kind::InPlace(Stream::try_from(number)?)),
             10..=19 => Ok(Kind::ByValue(Stream::try_from(number - 10)?)),
-            20..=25 => Ok(Kind::Turns(Turn::try_from(number)?)),
+            20 => Ok(Kind::Turns(Turn::KeepAlive)),
+            21 => Ok(Kind::Turns(Turn::Ask)),
+            22 => Ok(Kind::Turns(Turn::Begin)),
+            23 => Ok(Kind::Turns(Turn::Edit)),
+            24 => Ok(Kind::Turns(Turn::Demand)),
+            25 => Ok(Kind::Turns(Turn::Refused)),
             26 => Ok(Kind::Questions(Question::Phase)),
             27 => Ok(Kind::Questions(Question::MayUse)),
             _ => Err(Unlisted),
@@ -34,7 +39,7 @@ impl TryFrom<u64> for Kind {
 }
 
 impl Kind {
-    // What is not listed is refused as 25 is.
+    // What is not listed is answered as 25.
     pub(crate) fn of(number: u64) -> Self {
         Kind::try_from(number).unwrap_or(Kind::Turns(Turn::Refused))
     }

@@ -20,10 +20,10 @@ const BYTES: usize = 4096;
 const LINES: usize = 64;
 
 fn main(rt: HostRuntime) -> io::Result<()> {
-    // What the input leaves stays 0, which is no digit.
+    // What the input leaves of it stays 0, which is no digit.
     let mut text = [0u8; BYTES];
-    let mut room = &mut text[..];
-    io::copy(&mut rt.stdin().take(BYTES as u64), &mut room)?;
+    let mut rest = &mut text[..];
+    io::copy(&mut rt.stdin().take(BYTES as u64), &mut rest)?;
     lines(&rt, &text)
 }
 

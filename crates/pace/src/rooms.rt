@@ -1,6 +1,5 @@
 // Streams for a room, with an open lease and X on profile 0.
 use crate::ground;
-use crate::kind::Unlisted;
 use crate::sums::Sum;
 use modes::Mode;
 use station::event::{Ack, Advice, Answer, Event, PhaseAnswer, Request, UseAnswer};
@@ -16,22 +15,6 @@ pub(crate) enum Turn {
     Demand,
     // Refused by 3.
     Refused,
-}
-
-impl TryFrom<u64> for Turn {
-    type Error = Unlisted;
-
-    fn try_from(kind: u64) -> Result<Self, Unlisted> {
-        match kind {
-            20 => Ok(Turn::KeepAlive),
-            21 => Ok(Turn::Ask),
-            22 => Ok(Turn::Begin),
-            23 => Ok(Turn::Edit),
-            24 => Ok(Turn::Demand),
-            25 => Ok(Turn::Refused),
-            _ => Err(Unlisted),
-        }
-    }
 }
 
 impl Turn {
@@ -115,7 +98,7 @@ fn use_value(answer: UseAnswer) -> u64 {
     }
 }
 
-// Kept: as a closure of `Sum::of` each event would first clear what the step before it left, and take a sixth longer.
+// Kept: as a closure of `Sum::of`, which clears the place of a step's result before each event, an event takes a sixth longer.
 pub(crate) fn turns(turn: Turn, count: u64) -> Sum {
     let mut room = leased();
     let mut sum = Sum::new();

@@ -16,7 +16,7 @@ impl Sum {
         Sum { value: 0 }
     }
 
-    // Of what the answers to so many events, counted from 0, come to.
+    // Of the answers to so many events, each known by its number from 0 on.
     pub(crate) fn of<F: FnMut(u64) -> u64>(count: u64, answer: F) -> Sum
         requires { (state : F) (n : _) → F.pre state n }
     {
