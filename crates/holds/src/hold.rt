@@ -66,12 +66,5 @@ pub fn hold_at(holds: [Hold; Settings::PROFILES], profile: u8) -> Hold
 pub fn unwritten_in(holds: [Hold; Settings::PROFILES]) -> u64
     ensures { result ≡ mask (unwritten_set holds) }
 {
-    let mut mask: u64 = 0;
-    let mut i: usize = Settings::PROFILES;
-    while 0 < i {
-        i -= 1;
-        let hold = holds[i];
-        mask = mask * 2 + masks::bit(hold.unwritten);
-    }
-    mask
+    masks::those(&holds, |hold: Hold| hold.unwritten)
 }

@@ -1,11 +1,12 @@
 -- What a station asks is read back from its message, and a kind that is none of 1 to 5 asks nothing. What 3 and 4 leave is in range.
 -- Assumes nothing.
-use Rattle.std.proofs.Common.{◌≡◌, refl, ℕ, ◌≤◌, ◌<◌, leb, Bool, true, cond, Option, Some, Ok, Err, arith}
+use Rattle.std.proofs.Common.{◌≡◌, refl, ℕ, ◌≤◌, ◌<◌, leb, Bool, true, cond, Option, Some, None, Ok, Err, arith}
 use borrow.Author.Tests.{leb-false}
+use Rattle.record.specs.declared.message.Message.{Message}
 use Rattle.refusals.specs.Refusal.{Verdict}
 use Rattle.refusals.specs.declared.Refusal.TheVariants as refusal
 use Rattle.refusals.proofs.Choice.{past_if, past_unless}
-use Rattle.requests.specs.Request.{Request, Hello, KeepAlive, Ask, Release, Keep, profile_of, pair_refusal, request_refusal, message_of, request_of, said_asked}
+use Rattle.requests.specs.Request.{Request, Hello, KeepAlive, Ask, Release, Keep, profile_of, pair_refusal, request_refusal, message_of, asked_as, request_of, said_asked}
 
 pub asked_back_lem : (station number : ℕ) (q : Request) → request_of (message_of station number q) ≡ Some q
 unfolding request_of message_of
@@ -14,6 +15,9 @@ asked_back_lem station number KeepAlive = refl
 asked_back_lem station number (Ask p m) = refl
 asked_back_lem station number (Release p) = refl
 asked_back_lem station number (Keep p) = refl
+
+pub asks_nothing : (k : ℕ) (m : Message) → (k ≡ 1 → ⊥) → (k ≡ 2 → ⊥) → (k ≡ 3 → ⊥) → (k ≡ 4 → ⊥) → (k ≡ 5 → ⊥) → None ≡ asked_as k m
+asks_nothing k m h1 h2 h3 h4 h5 = grind arith
 
 -- what is said of a request tells it from every other
 pub asked_told : (a b : Option Request) → said_asked a ≡ said_asked b → a ≡ b

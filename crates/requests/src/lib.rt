@@ -3,7 +3,6 @@
 
 ghost use Rattle.std.specs.Prelude.{◌≡◌};
 ghost use Rattle.modes.specs.Modes.{is_mode};
-ghost use Rattle.record.specs.Message.{message};
 ghost use Rattle.requests.specs.Request.{profile_of, profile_refusal, pair_refusal, request_refusal, message_of, said_asked, request_of};
 
 use modes::Mode;
@@ -21,6 +20,7 @@ pub enum Request {
 }
 
 // The profile that a request names, 0 where it names none.
+// Kept: a number and not an Option, since what stands at that profile is looked at, and where none is named it does not matter.
 pub fn profile_of(request: Request) -> u8
     ensures { result ≡ profile_of request }
 {
@@ -64,42 +64,41 @@ pub fn check_request(profiles: u64, request: Request) -> Result<(), Refusal>
     }
 }
 
-fn bare(kind: u8, station: u8, number: u32) -> Message
-    ensures { result ≡ message kind station number 255 0 0 }
-{
-    on_profile(kind, station, number, Message::NO_PROFILE, Message::NO_MODE)
-}
-
-fn on_profile(kind: u8, station: u8, number: u32, profile: u8, mode: u8) -> Message
-    ensures { result ≡ message kind station number profile mode 0 }
-{
-    Message {
-        kind,
-        station,
-        number,
-        profile,
-        mode,
-        detail: Message::NO_DETAIL,
-    }
-}
-
-// The message of what a station asks under a number.
+// The message of what a station asks under a number: but for its kind and what it names, a hello.
 #[tactic(auto, unfolding(crate::specs::Request::message_of))]
 pub fn message_of(station: u8, number: u32, request: Request) -> Message
     ensures { result ≡ message_of station number request }
 {
+    let hello = Message {
+        kind: Message::HELLO,
+        station,
+        number,
+        profile: Message::NO_PROFILE,
+        mode: Message::NO_MODE,
+        detail: Message::NO_DETAIL,
+    };
     match request {
-        Request::Hello => bare(Message::HELLO, station, number),
-        Request::KeepAlive => bare(Message::KEEP_ALIVE, station, number),
-        Request::Ask(profile, asked) => {
-            on_profile(Message::ASK, station, number, profile, asked.0)
-        }
-        Request::Release(profile) => {
-            on_profile(Message::RELEASE, station, number, profile, Message::NO_MODE)
-        }
-        Request::Keep(profile) => {
-            on_profile(Message::KEEP, station, number, profile, Message::NO_MODE)
-        }
+        Request::Hello => hello,
+        Request::KeepAlive => Message {
+            kind: Message::KEEP_ALIVE,
+            ..hello
+        },
+        Request::Ask(profile, mode) => Message {
+            kind: Message::ASK,
+            profile,
+            mode: mode.0,
+            ..hello
+        },
+        Request::Release(profile) => Message {
+            kind: Message::RELEASE,
+            profile,
+            ..hello
+        },
+        Request::Keep(profile) => Message {
+            kind: Message::KEEP,
+            profile,
+            ..hello
+        },
     }
 }
 

@@ -9,7 +9,7 @@ use refusals::Refusal;
 use timing::reading::Reading;
 use timing::settings::Settings;
 
-// Who is asked: a station by its settings and number, at a reading, and the last reading before.
+// A station that is asked, by its settings and number, with the last reading and the one at which it is asked.
 #[derive(Clone, Copy)]
 pub struct Asking {
     pub settings: Settings,

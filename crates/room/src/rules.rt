@@ -11,7 +11,7 @@ use refusals::Refusal;
 use timing::reading::Reading;
 
 // No message has a number above this one.
-pub const LAST_NUMBER: u32 = 4_294_967_295;
+pub const LAST_NUMBER: u32 = u32::MAX;
 
 // What the rules look at.
 #[derive(Clone, Copy)]
@@ -26,7 +26,7 @@ pub struct Seen {
     pub last: u32,
 }
 
-// A refusal that applies unless a test holds.
+// Refused, unless it holds.
 fn unless(holds: bool, refusal: Refusal) -> Result<(), Refusal>
     ensures { result ≡ cond holds (Ok tt) (Err refusal) }
 {
@@ -65,6 +65,7 @@ fn ack_profile(ack: Ack) -> u8
 }
 
 // The profile that an event names, 0 where it names none.
+// Kept: a number, as `profile_of` of `requests` answers it: what is held there is looked at, named or not.
 pub fn profile_for(event: Event) -> u8
     ensures { result ≡ profile_for event }
 {
@@ -81,12 +82,14 @@ pub fn profile_for(event: Event) -> u8
 }
 
 impl Seen {
+    // 13: the last number is used.
     fn check_number(self) -> Result<(), Refusal>
         ensures { result ≡ number_refusal self.last }
     {
         unless(self.last < LAST_NUMBER, Refusal::NumbersUsed)
     }
 
+    // 12: a release needs no started operation and nothing unwritten.
     fn check_unused(self) -> Result<(), Refusal>
         ensures { result ≡ release_refusal self.hold }
     {
@@ -94,19 +97,21 @@ impl Seen {
         unless(!self.hold.unwritten, Refusal::StillUsed)
     }
 
+    // 11: no operation is started where one is needed.
     fn check_started(self) -> Result<(), Refusal>
         ensures { result ≡ started_refusal self.hold }
     {
         unless(0 < self.hold.started, Refusal::OperationCount)
     }
 
+    // 8: the station is out.
     fn check_inside(self) -> Result<(), Refusal>
         ensures { result ≡ cond self.stage.out (Err Out) (Ok tt) }
     {
         unless(!self.stage.out, Refusal::Out)
     }
 
-    // A demand, and whatever else needs an open station in phase 1 or 2.
+    // 8 and 9 of a demand, and of whatever else needs an open station in phase 1 or 2.
     #[tactic(auto, unfolding(crate::specs::Rules::demand_refusal))]
     fn check_early(self) -> Result<(), Refusal>
         ensures { result ≡ demand_refusal self.stage }
