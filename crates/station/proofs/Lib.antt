@@ -1,4 +1,3 @@
-pub mod Others
 pub mod Ways
 pub mod Said
 pub mod Steps
