@@ -6,7 +6,7 @@ ghost use Rattle.holds.specs.Hold.{no_hold, no_holds, hold_in, with_mode, with_s
 use modes::Mode;
 use timing::settings::Settings;
 
-#[derive(Clone, Copy)]
+#[derive(Clone, Copy, Debug, PartialEq, Eq)]
 pub struct Hold {
     pub mode: Mode,
     pub started: u8,

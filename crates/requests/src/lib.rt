@@ -10,7 +10,7 @@ use record::Message;
 use refusals::Refusal;
 
 // Profile and mode are numbers as given or received.
-#[derive(Clone, Copy)]
+#[derive(Clone, Copy, Debug, PartialEq, Eq)]
 pub enum Request {
     Hello,
     KeepAlive,

@@ -3,14 +3,14 @@ use modes::Mode;
 pub use requests::Request;
 
 // A message that waits, and the reading at its sending. Its number is the last number.
-#[derive(Clone, Copy)]
+#[derive(Clone, Copy, Debug, PartialEq, Eq)]
 pub struct Sent {
     pub request: Request,
     pub at: u64,
 }
 
 // What an ACK says: done, or of a profile.
-#[derive(Clone, Copy)]
+#[derive(Clone, Copy, Debug, PartialEq, Eq)]
 pub enum Ack {
     Done,
     Granted(u8, Mode),
@@ -18,7 +18,7 @@ pub enum Ack {
     InUse(u8),
 }
 
-#[derive(Clone, Copy)]
+#[derive(Clone, Copy, Debug, PartialEq, Eq)]
 pub enum Event {
     Send(Request),
     // Begin an operation in a mode.
@@ -28,6 +28,7 @@ pub enum Event {
     WriteOut(u8),
     Restart,
     // From the server: the station named, the number, what it says.
+    // Kept: what a NACK says is a plain number, since a room takes every one, also what is no NACK of the paper's.
     Ack(u8, u32, Ack),
     Nack(u8, u32, u8),
     // The station named, the profile and the mode that another wants.

@@ -24,7 +24,7 @@ fn check_demand(profiles: u64, profile: u8, mode: Mode) -> Result<(), Refusal>
     ensures { result ≡ pair_refusal profiles profile (is_wanted mode.0) }
 {
     requests::check_pair(profiles, profile, mode)?;
-    if mode.0 == Mode::M.0 {
+    if mode == Mode::M {
         Err(Refusal::Mode)
     } else {
         Ok(())
