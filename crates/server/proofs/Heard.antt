@@ -8,6 +8,7 @@ use lib.Dec.{eqb, ltb}
 use lib.ListN.{length, get_or, set, length-set}
 use lib.Seq.{get_or-set_same, get_or-set_other, set-get_or}
 use borrow.Author.Tests.{eqb-true, eqb-false, lt-ltb}
+use Rattle.refusals.specs.Refusal.{Verdict}
 use Rattle.masks.specs.Mask.{Set}
 use Rattle.masks.proofs.Sets.{has}
 use Rattle.server.specs.State.{Status, Live, Mark, Unmarked, Member, Profile, Server, nobody, no_profile, member_at, profile_at, mode_in, mark_in, status_of, last_of, mode_of, mark_of}
@@ -103,7 +104,7 @@ module _ (wait : ℕ) (s : Server) (now i k : ℕ) (q : Request) (accepted : Acc
       ≡ after_heard s now i (profile_of q) (if_new b (live_set s.members) now i k q (member_at s i) (profile_at s (profile_of q)))
   unfolding step message hear
   by_newness b e =
-      ap (λ (n : ℕ). if_good n wait s now (Message i k q)) accepted
+      ap (λ (v : Verdict). if_good v wait s now (Message i k q)) accepted
       ∙ ap (λ (b : Bool). after_heard s now i (profile_of q) (if_new b (live_set s.members) now i k q (member_at s i) (profile_at s (profile_of q)))) e
 
   -- "Every other message raises the last number, then:"

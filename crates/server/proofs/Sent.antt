@@ -7,16 +7,17 @@ use mathlib.Core.List.{List, Memᴰ}
 use mathlib.Core.Logic.{◌⊎◌, inl, inr}
 use Prim.Native.Nat.{ℕ, zero, suc, ◌/◌, ◌%◌}
 use native.Mathlib.Omega.{arith}
+use Rattle.std.proofs.Common.{Some}
 use lib.Dec.{eqb}
 use Rattle.record.specs.declared.message.Message.{Message}
 use Rattle.server.specs.State.{Status, Live}
 use Rattle.server.specs.Event.{Request, Hello, KeepAlive, Ask, Release, Keep, Message as Said, Answer, Done, Granted, Wait, InUse, Nack, Ticked, Refused}
 use Rattle.record.specs.Message.{message}
 use Rattle.requests.specs.Request.{message_of, request_of}
-use Rattle.server.specs.Border.{For, event_of, first_if, demands_from, sent_for}
+use Rattle.server.specs.Border.{event_of, first_if, demands_from, sent_for}
 
 -- what a station says reaches the server as it was meant
-pub heard_back_lem : (i k : ℕ) (q : Request) → event_of (message_of i k q) ≡ For (Said i k q)
+pub heard_back_lem : (i k : ℕ) (q : Request) → event_of (message_of i k q) ≡ Some (Said i k q)
 unfolding event_of request_of message_of
 heard_back_lem i k Hello = refl
 heard_back_lem i k KeepAlive = refl

@@ -4,6 +4,7 @@
 use mathlib.Core.Path.{◌≡◌, refl, sym, ap, subst, ◌∙◌}
 use mathlib.Core.Bool.{Bool, true, false, cond, ◌&&◌, and-eq-true_iff}
 use Prim.Native.Nat.{ℕ}
+use Rattle.std.proofs.Common.{Ok}
 use lib.Dec.{eqb}
 use lib.ListN.{length}
 use borrow.Author.Tests.{eqb-true, ne_eqb, eq-eqb}
@@ -20,7 +21,7 @@ pub record Sized (s : Server) : Type 0 where
 
 -- none of the refusals 1 to 6 applies
 abbrev pub Accepted : Server → ℕ → Event → Type 0
-Accepted s now e = refusal s.settings s.reading now e ≡ 0
+Accepted s now e = refusal s.settings s.reading now e ≡ Ok tt
 
 -- tables by station, and by station and profile, with some entries changed and every other as it was
 module _ {A : Type 0} where

@@ -5,6 +5,7 @@ use mathlib.Core.Bool.{Bool, true, false, cond, ◌&&◌, ◌||◌}
 use mathlib.Core.List.{List, [], ◌∷◌, map}
 use Prim.Native.Nat.{ℕ, zero, suc, ◌≤◌}
 use lib.ListN.{length, get_or, get_or-eq_default}
+use Rattle.refusals.specs.Refusal.{Verdict}
 use Rattle.masks.specs.Mask.{Set, mask}
 use Rattle.masks.proofs.Sets.{has, no_right, has_both, has_either, has_those, changed, length_changed}
 use Rattle.server.specs.State.{Status, Unknown, TimingOut, Unmarked, Marked, Member, Profile, Server, nobody, no_mark, as_mark, mark_in, status_of, last_of, mode_of, mark_of}
@@ -122,7 +123,7 @@ module _ (wait : ℕ) (s : Server) (now : ℕ) (sized : Sized s) where
       let freed = freed_set wait now s in
       let started = started_set now (free wait now s) in
       let ms = freed_members wait s now in
-      along (ap (λ (n : ℕ). if_good n wait s now Tick) accepted)
+      along (ap (λ (v : Verdict). if_good v wait s now Tick) accepted)
       (record {
         answers = refl;
         settings = refl;

@@ -11,7 +11,7 @@ pub returns : goal.returns
 returns c =
     let a = c.args in
     let p = c.put_run in
-    let e = ap messages_of c.messages-run.ensures ∙ run_messages (sent_for a.station a.number a.answer) in (
+    let e = ap messages_of c.messages.ensures ∙ run_messages (sent_for a.station a.number a.answer) in (
       p.ensures.0 ∙ ap (λ (l : List Message). run_answer 0 l a.at a.buf.now) e,
       p.ensures.1 ∙ ap (λ (l : List Message). run_content l a.at a.buf.now) e,
     )
