@@ -29,6 +29,7 @@ pub struct Passed {
 }
 
 // All records that stand one after another from a place on, up to the first refusal.
+#[tactic(auto, using(record::proofs::Said::said_read_injective, crate::proofs::Passing::lies, crate::proofs::Passing::passes, crate::proofs::Passing::stops))]
 pub fn passed_from(s: &[u8], at: usize) -> Passed
     ensures { result ≡ passed_from s.now at }
 {

@@ -13,6 +13,7 @@ fn marked(first: u8, second: u8) -> bool
 }
 
 // The six numbers of eleven bytes.
+// Kept: no From, which would be public, and give a message of bytes that nothing has judged.
 fn message_of(b: &[u8; Message::LENGTH]) -> Message
     ensures { result ≡ message_of b.now }
 {
@@ -47,7 +48,7 @@ fn judged(b: &[u8; Message::LENGTH], next: usize) -> Result<(Message, usize), Re
 }
 
 // What stands at a place, whatever the place is: the message and the place after its record.
-#[tactic(auto, using(crate::proofs::Ways::too_short))]
+#[tactic(auto, using(crate::proofs::Short::too_short))]
 pub fn record_at(s: &[u8], at: usize) -> Result<(Message, usize), Refusal>
     ensures { said_read result ≡ said_read (read_at s.now at) }
 {

@@ -1,12 +1,8 @@
 -- A turn of the loop over a run, and its ends.
 -- Assumes nothing.
-use Prim.Native.Nat.{ℕ, suc, ◌+◌, ◌≤◌}
-use mathlib.Core.Path.{◌≡◌}
-use mathlib.Core.List.{List, ◌∷◌}
-use native.Mathlib.Numerals.{add-one}
-use lib.ListN.{length, drop, drop_of_length-le}
+use Rattle.std.proofs.Common.{◌≡◌, ℕ, suc, ◌+◌, ◌<◌, List, ◌∷◌, length, get_or, drop, drop-cons, add-one, Ok, Err, Some, None, refl, ◌∙◌, arith}
+use lib.ListN.{drop_of_length-le}
 use Rattle.record.specs.declared.message.Message.{Message}
-use Rattle.std.specs.Prelude.{Ok, Err, Some, None}
 use Rattle.refusals.specs.declared.Refusal.{Refusal}
 use Rattle.writer.specs.Put.{put_answer, put_content}
 use Rattle.writer.specs.Run.{run_answer, run_content}
@@ -29,27 +25,23 @@ module _ (before : ℕ) (m : Message) (ms : List Message) (at : ℕ) (buf : List
   ends_content r e = simp e
 
 -- the same at a place of a list
-module _ (ms : List Message) (i : ℕ) (m : Message) (at : ℕ) (buf : List ℕ) (here : drop i ms ≡ m ∷ drop (suc i) ms) where
-  pub go_answer : (n : ℕ) → put_answer m at buf ≡ Ok n
-      → run_answer i (drop i ms) at buf ≡ run_answer (i + 1) (drop (i + 1) ms) n (put_content m at buf)
-  go_answer n e = rw (here, add-one) (goes_answer i m (drop (suc i) ms) at buf n e)
+module _ (ms : List Message) (i : ℕ) (none : Message) (at : ℕ) (buf : List ℕ) (within : i < length ms) where
+  pub go_answer : (n : ℕ) → put_answer (get_or ms i none) at buf ≡ Ok n
+      → run_answer i (drop i ms) at buf ≡ run_answer (i + 1) (drop (i + 1) ms) n (put_content (get_or ms i none) at buf)
+  go_answer n e = rw (drop-cons ms i none within, add-one) (goes_answer i (get_or ms i none) (drop (suc i) ms) at buf n e)
 
-  pub go_content : (n : ℕ) → put_answer m at buf ≡ Ok n
-      → run_content (drop i ms) at buf ≡ run_content (drop (i + 1) ms) n (put_content m at buf)
-  go_content n e = rw (here, add-one) (goes_content i m (drop (suc i) ms) at buf n e)
+  pub go_content : (n : ℕ) → put_answer (get_or ms i none) at buf ≡ Ok n
+      → run_content (drop i ms) at buf ≡ run_content (drop (i + 1) ms) n (put_content (get_or ms i none) at buf)
+  go_content n e = rw (drop-cons ms i none within, add-one) (goes_content i (get_or ms i none) (drop (suc i) ms) at buf n e)
 
-  pub stop_answer : (r : Refusal) → put_answer m at buf ≡ Err r
-      → run_answer i (drop i ms) at buf ≡ record { written = i; next = at; refusal = Some r }
-  stop_answer r e = rw here (ends_answer i m (drop (suc i) ms) at buf r e)
+  pub stop : (r : Refusal) → put_answer (get_or ms i none) at buf ≡ Err r
+      → (run_answer i (drop i ms) at buf ≡ record { written = i; next = at; refusal = Some r })
+      × (run_content (drop i ms) at buf ≡ put_content (get_or ms i none) at buf)
+  stop r e =
+      let m = get_or ms i none in
+      rw (drop-cons ms i none within) (ends_answer i m (drop (suc i) ms) at buf r e, ends_content i m (drop (suc i) ms) at buf r e ∙ simp e)
 
-  pub stop_content : (r : Refusal) → put_answer m at buf ≡ Err r → run_content (drop i ms) at buf ≡ buf
-  stop_content r e = rw here (ends_content i m (drop (suc i) ms) at buf r e)
-
-module _ (ms : List Message) (i : ℕ) (at : ℕ) (buf : List ℕ) (done : length ms ≤ i) where
-  pub end_answer : (n : ℕ) → n ≡ i → record { written = n; next = at; refusal = None } ≡ run_answer i (drop i ms) at buf
-  unfolding run_answer
-  end_answer n e = rw (drop_of_length-le ms done, e)
-
-  pub end_content : run_content (drop i ms) at buf ≡ buf
-  unfolding run_content
-  end_content = rw (drop_of_length-le ms done)
+pub end : (ms : List Message) (i at : ℕ) (buf : List ℕ) → length ms ≡ i
+    → (run_answer i (drop i ms) at buf ≡ record { written = length ms; next = at; refusal = None }) × (run_content (drop i ms) at buf ≡ buf)
+unfolding run_answer run_content
+end ms i at buf done = rw (drop_of_length-le ms {i = i} (omega arith), done) (refl, refl)

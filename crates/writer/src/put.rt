@@ -5,6 +5,7 @@ ghost use Rattle.writer.specs.Put.{bytes_of, put_answer, put_content, said_put};
 use record::{Message, allowed};
 use refusals::Refusal;
 
+// Kept: no From, since the message and the array are both of other crates.
 fn bytes_of(m: Message) -> [u8; Message::LENGTH]
     ensures { result ≡ bytes_of m }
 {
@@ -31,14 +32,13 @@ pub fn put_record(buf: &mut [u8], m: Message) -> Result<usize, Refusal>
     if !allowed(m) {
         return Err(Refusal::NotAllowed);
     }
-    if buf.len() < Message::LENGTH {
-        return Err(Refusal::NoRoom);
-    }
-    buf[..Message::LENGTH].copy_from_slice(&bytes_of(m));
+    let front = buf.first_chunk_mut().ok_or(Refusal::NoRoom)?;
+    *front = bytes_of(m);
     Ok(Message::LENGTH)
 }
 
 // A record at a place, or at the end if the place is past it: what room is left there is lent on. It gives the place after the record.
+#[tactic(auto, using(crate::proofs::Said::said_put_injective, crate::proofs::Lent::lent_answer, crate::proofs::Lent::lent_content))]
 pub fn put_at(buf: &mut [u8], at: usize, m: Message) -> Result<usize, Refusal>
     ensures { (said_put result ≡ said_put (put_answer m at buf.old)) × (buf.new ≡ put_content m at buf.old) }
 {

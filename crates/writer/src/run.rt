@@ -7,6 +7,7 @@ use record::Message;
 use refusals::Refusal;
 
 // One answer and up to a demand for each station; the first `count` of the messages are meant, or all if it is beyond the array.
+// Kept: a count beside an array, since `put_run` answers for a count beyond the array too, which a vector of fixed room can't have.
 #[derive(Clone, Copy, Debug, PartialEq, Eq)]
 pub struct Run {
     pub count: usize,
@@ -33,6 +34,7 @@ pub struct Written {
 }
 
 // The first message that is refused ends the run: none of its bytes are written, and the records before it stand.
+#[tactic(auto, using(crate::proofs::Said::said_put_injective, crate::proofs::Turns::go_answer, crate::proofs::Turns::go_content, crate::proofs::Turns::stop, crate::proofs::Turns::end))]
 pub fn put_run(buf: &mut [u8], at: usize, run: Run) -> Written
     ensures { (result ≡ run_answer 0 (messages_of run) at buf.old) × (buf.new ≡ run_content (messages_of run) at buf.old) }
 {
