@@ -5,7 +5,7 @@ ghost use Rattle.writer.specs.Put.{bytes_of, put_answer, put_content, said_put};
 use record::{Message, allowed};
 use refusals::Refusal;
 
-// Kept: no From, since the message and the array are both of other crates.
+// Kept: no From, since an impl of it must name a type of this crate.
 fn bytes_of(m: Message) -> [u8; Message::LENGTH]
     ensures { result ≡ bytes_of m }
 {
