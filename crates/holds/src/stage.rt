@@ -29,7 +29,7 @@ fn while_closing(phase: Phase) -> Phase
 }
 
 // None where the station is out, or its lease over.
-// Kept: the four values that `stage_of` takes too; each is called in one place, and a struct of them would be built for that alone.
+// Kept: `stage_of` takes the same four values; a station asks each in one place, and a struct of them would be built for that alone.
 #[tactic(auto, using(timing::proofs::Said::phase_told), unfolding(crate::specs::Stage::phase_at))]
 pub fn phase_at(settings: Settings, standing: Standing, start: u64, reading: u64) -> Option<Phase>
     ensures { phase_said result ≡ phase_at settings standing start reading }
