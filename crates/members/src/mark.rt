@@ -73,7 +73,7 @@ pub const EVERYONE: u64 = 65_535;
 
 // A mark as it is stored, an element of an array of marks: the reading since which the mode is demanded, or one of the
 // two highest numbers, which no reading is. So a mark takes eight bytes, and each number is one mark.
-// Kept: an `Option` of a mark, or the mark itself, takes sixteen bytes, and a server has 1,024 of them.
+// Kept: a number, since the mark itself takes sixteen bytes; a server has 1,024 of them, and `Server::step` moves them all.
 #[derive(Clone, Copy, Debug, PartialEq, Eq)]
 pub struct Marked {
     word: u64,
@@ -119,17 +119,16 @@ impl From<Marked> for Mark {
 pub type Marks = [Marked; Settings::STATIONS];
 
 // The marks of a set of stations, changed.
-pub fn change_in<F: Fn(Mark) -> Mark>(marks: Marks, set: u64, change: F) -> Marks
+pub fn change_in<F: Fn(Mark) -> Mark>(mut marks: Marks, set: u64, change: F) -> Marks
     requires { F.IsAlwaysCallable change }
     ensures { (f : Mark → Mark) → Tells (F.post change) f → result ≡ change_under (remark f) set marks }
 {
-    let mut next = marks;
     masks::change_under(
-        &mut next,
+        &mut marks,
         set,
         |stored| Marked::from(change(Mark::from(stored))),
     );
-    next
+    marks
 }
 
 // Whether a station of the set has a mark.

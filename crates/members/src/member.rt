@@ -1,6 +1,5 @@
 // What the server knows of a station: whether it is live, and the number of its last message.
 ghost use Rattle.std.specs.Prelude.{◌≡◌};
-ghost use Rattle.masks.specs.Mask.{lowest};
 ghost use Rattle.members.specs.Member.{is_live, is_waited, restatus};
 
 use timing::reading::Reading;
@@ -48,14 +47,4 @@ impl Member {
             last: self.last,
         }
     }
-}
-
-// A new status, under the lowest bit.
-pub fn turned(member: Member, w: u64, status: Status) -> Member
-    ensures { result ≡ lowest (restatus status) w member }
-{
-    if w % 2 == 1 {
-        return member.with_status(status);
-    }
-    member
 }

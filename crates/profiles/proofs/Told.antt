@@ -2,8 +2,6 @@
 -- Assumes nothing.
 use Rattle.std.proofs.Common.{◌≡◌, ap, arith}
 use Rattle.refusals.proofs.Told.{number_told}
-use Rattle.timing.proofs.Choice.{both}
-use Rattle.profiles.specs.Profile.{Profile}
 use Rattle.profiles.specs.Ask.{Answer, Ruled}
 use Rattle.profiles.specs.Said.{said}
 
@@ -19,4 +17,4 @@ ruled_said a b e = (ap (λ (r : Ruled). r.profile) e, ap (λ (r : Ruled). said r
 
 pub ruled_told : (a b : Ruled) → Same a b → a ≡ b
 ruled_told a b e =
-    both (λ (x : Profile) (y : Answer). record { profile = x; answer = y }) e.0 (answer_told a.answer b.answer e.1)
+    grind (arith, answer_told)

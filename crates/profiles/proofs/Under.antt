@@ -9,8 +9,6 @@ use native.Mathlib.Omega.{arith}
 use lib.Bits.{bit_or}
 use lib.ListN.{length, get_or, drop, replicate, drop_of_length-le}
 use lib.Seq.{drop-cons}
-use lib.Dec.{eqb}
-use borrow.Author.Tests.{eqb-true, not-false}
 use Rattle.masks.specs.Mask.{Set, mask, either, some_under}
 use Rattle.masks.proofs.Laws.{under_in, mask_either, none_under, none_of}
 use Rattle.modes.specs.declared.Mode.{Mode}
@@ -47,13 +45,13 @@ unfolding touched_under wiped_under
 touched_wiped w x e = by_tests (some_under is_held w x.row) (some_under is_marked w x.marks) refl refl e
   where
     unheld : (m : Mode) → is_held m ≡ false → no_mode m ≡ m
-    unheld m e = λ i. record { 0 = sym (eqb-true m.0 0 (not-false (eqb m.0 0) e)) i }
+    unheld m e = grind arith
 
     unmarked : (m : Marked) → is_marked m ≡ false → remark wipe_mark m ≡ m
     unmarked m e = sym (unmarked_word m e)
 
     by_tests : (a b : Bool) → some_under is_held w x.row ≡ a → some_under is_marked w x.marks ≡ b → (a || b) ≡ false → wiped_under w x ≡ x
-    by_tests true b p q e = let z : ◌≡◌ {A = ℕ} 0 1 = cc in absurd (omega arith)
+    by_tests true b p q e = grind arith
     by_tests false b p q e =
         λ i. record { row = none_under is_held no_mode unheld w x.row p i; marks = none_under is_marked (remark wipe_mark) unmarked w x.marks (q ∙ e) i }
 

@@ -2,7 +2,7 @@
 use modes::Mode;
 use refusals::Refusal;
 
-#[derive(Clone, Copy)]
+#[derive(Clone, Copy, Debug, PartialEq, Eq)]
 pub enum Answer {
     Done,
     // Profile and mode.

@@ -12,7 +12,7 @@ use members::mark;
 use members::mark::EVERYONE;
 use modes::Mode;
 
-#[derive(Clone, Copy)]
+#[derive(Clone, Copy, Debug, PartialEq, Eq)]
 pub struct Ruled {
     pub profile: Profile,
     pub answer: Answer,

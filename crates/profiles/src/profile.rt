@@ -12,7 +12,7 @@ use members::mark::{EVERYONE, Mark, Marked, Marks};
 use modes::Mode;
 use timing::settings::Settings;
 
-#[derive(Clone, Copy)]
+#[derive(Clone, Copy, Debug, PartialEq, Eq)]
 pub struct Profile {
     pub(crate) row: Row,
     pub(crate) marks: Marks,

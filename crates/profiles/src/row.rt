@@ -27,28 +27,26 @@ pub(crate) fn held(row: Row, station: usize) -> Mode
     row.get(station).copied().unwrap_or(Mode::NONE)
 }
 
-pub(crate) fn with_mode(row: Row, station: usize, new: Mode) -> Row
+pub(crate) fn with_mode(mut row: Row, station: usize, new: Mode) -> Row
     ensures { result ≡ set row station new }
 {
-    let mut next = row;
     if station < Settings::STATIONS {
-        next[station] = new;
+        row[station] = new;
     }
-    next
+    row
 }
 
 // The modes of a set of stations go.
-pub(crate) fn wiped(row: Row, stations: u64) -> Row
+pub(crate) fn wiped(mut row: Row, stations: u64) -> Row
     ensures { result ≡ change_under no_mode stations row }
 {
-    let mut next = row;
-    masks::change_under(&mut next, stations, |_| Mode::NONE);
-    next
+    masks::change_under(&mut row, stations, |_| Mode::NONE);
+    row
 }
 
 // Whether a station of the set holds a mode.
 pub(crate) fn some_in(row: Row, stations: u64) -> bool
     ensures { result ≡ some_under is_held stations row }
 {
-    masks::some_under(&row, stations, |held| held.0 != 0)
+    masks::some_under(&row, stations, |held| held != Mode::NONE)
 }
