@@ -65,15 +65,11 @@ answer_on number h (Acked i k a) = answer.Done
 answer_on number h (Nacked i k d) = answer.Done
 answer_on number h (Demand i p m) = answer.Advice (advised h)
 
+abbrev pub parts_with : Station → Hold → Parts
+parts_with s h = record { standing = s.standing; start = s.start; last = s.last; waiting = s.waiting; hold = h }
+
 abbrev pub parts_of : Station → ℕ → Parts
-parts_of s p =
-    record {
-      standing = s.standing;
-      start = s.start;
-      last = s.last;
-      waiting = s.waiting;
-      hold = hold_in s.holds p;
-    }
+parts_of s p = parts_with s (hold_in s.holds p)
 
 -- what 1 to 6 are asked of
 abbrev pub asking_of : Station → ℕ → Asking

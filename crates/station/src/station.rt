@@ -1,11 +1,10 @@
 // A station: its settings and number, where it stands, and what it holds.
-ghost use Rattle.std.specs.Prelude.{◌≡◌, ◌<◌, ◌&&◌, ◌||◌, not};
+ghost use Rattle.std.specs.Prelude.{◌≡◌, ◌&&◌, ◌||◌, not};
 ghost use Rattle.masks.specs.Mask.{mask};
-ghost use Rattle.timing.specs.Limits.{most_profiles};
 ghost use Rattle.timing.specs.Reading.{passed};
 ghost use Rattle.holds.specs.Stage.{is_out};
 ghost use Rattle.station.specs.Station.{is_restart, lost_if, made, refusal_of, step, phase_asked, may_use};
-ghost use Rattle.station.specs.Parts.{lease_if, asking_of, parts_of, joined};
+ghost use Rattle.station.specs.Parts.{lease_if, asking_of, parts_with, joined};
 ghost use Rattle.station.specs.Said.{told, said_phase, said_use};
 
 use crate::event::{Answer, Event, Refusal, Sent};
@@ -112,16 +111,16 @@ impl Station {
         self.standing != Standing::Out && Reading::passed(self.start, lease, reading)
     }
 
-    fn parts(&self, at: usize) -> Parts
-        requires { at < most_profiles }
-        ensures { result ≡ parts_of self.now at }
+    // With the hold that an event names.
+    fn parts(&self, hold: Hold) -> Parts
+        ensures { result ≡ parts_with self.now hold }
     {
         Parts {
             standing: self.standing,
             start: self.start,
             last: self.last,
             waiting: self.waiting,
-            hold: self.holds[at],
+            hold,
         }
     }
 
@@ -155,16 +154,17 @@ impl Station {
                 };
             }
         };
+        let mut holds = self.holds;
+        let at = rules::profile_for(event) as usize;
+        let found = self.parts(holds[at]);
         let over = self.is_over(lease, reading);
         let cleared = clears(over, event);
-        let mut holds = self.holds;
         let mut lost: u64 = 0;
         if cleared {
             lost = lost_at(over, event, holds);
             holds = hold::no_holds();
         }
-        let at = rules::profile_for(event) as usize;
-        let arrived = self.parts(at).arrived(cleared);
+        let arrived = found.arrived(cleared);
         let outcome = arrived.judged(self.settings, lease, reading, event);
         holds[at] = outcome.parts.hold;
         Stepped {

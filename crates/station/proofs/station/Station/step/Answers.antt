@@ -12,8 +12,8 @@ returns-in-Err c =
     let a = c.args in
     ap told (refused a.self a.reading a.event _ c.lease_for.ensures _ c.in-Err.is)
 
-pub parts-requires : goal.parts-requires
-parts-requires c =
+pub bounds-holds-at-2 : goal.bounds-holds-at-2
+bounds-holds-at-2 c =
     let a = c.args in
     found_profile a.self a.reading a.event (heard_lease a.self a.reading a.event _ c.lease_for.ensures _ c.in-Ok.is).0 _ c.profile_for-at.ensures
 
@@ -32,4 +32,4 @@ returns c =
     (elim there.branch [
       | then-cleared w ↦ none_left a.self a.reading a.event c.is_over-over.result _ c.clears-cleared.ensures w.if-cleared.true _ there.holds w.no_holds-holds.ensures w.holds-is _ there.lost w.lost_at-lost.ensures w.lost-is
       | else-cleared w ↦ all_kept a.self a.reading a.event c.is_over-over.result _ c.clears-cleared.ensures w.if-cleared.false there.holds w.holds-is there.lost w.lost-is
-    ]) _ c.profile_for-at.ensures _ c.parts.ensures _ c.arrived-arrived.ensures _ c.judged-outcome.ensures _ c.joined.ensures _ c.count.ensures)
+    ]) _ c.profile_for-at.ensures _ c.parts-found.ensures _ c.arrived-arrived.ensures _ c.judged-outcome.ensures _ c.joined.ensures _ c.count.ensures)
