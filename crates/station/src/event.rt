@@ -10,7 +10,7 @@ pub enum Advice {
     Release,
 }
 
-#[derive(Clone, Copy)]
+#[derive(Clone, Copy, Debug, PartialEq, Eq)]
 pub enum Answer {
     Done,
     // A message to send, with its number.
