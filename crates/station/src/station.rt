@@ -23,6 +23,7 @@ pub struct Station {
     number: u8,
     standing: Standing,
     // The lease start; 0 where the station is out.
+    // Kept: a number and no Option, as `usable` and the law `started_before` speak of it.
     start: u64,
     last: u32,
     reading: u64,
