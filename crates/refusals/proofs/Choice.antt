@@ -1,8 +1,16 @@
--- The lowest of several refusals: what it tells that none applies.
+-- The lowest of several refusals: how it is found, and what it tells that none applies.
 -- Assumes nothing.
-use Rattle.std.proofs.Common.{◌≡◌, Bool, true, false, cond, refl, Ok, Err, arith}
+use Rattle.std.proofs.Common.{◌≡◌, Bool, true, false, cond, refl, sym, ap, ◌∙◌, Ok, Err, arith}
 use Rattle.refusals.specs.Refusal.{Verdict, or_else}
 use Rattle.refusals.specs.declared.Refusal.{Refusal}
+
+-- the lower of two, r being what the first of them says
+pub first : (r a b : Verdict) → r ≡ a → (r ≡ Ok tt → ⊥) → r ≡ or_else a b
+first r (Ok u) b e h = absurd (h e)
+first r (Err n) b e h = e
+
+pub next : (r a b k : Verdict) → r ≡ a → r ≡ Ok tt → k ≡ b → k ≡ or_else a b
+next r a b k e z g = g ∙ ap (λ (v : Verdict). or_else v b) (sym z ∙ e)
 
 -- neither applies
 pub or_ok : (a b : Verdict) → or_else a b ≡ Ok tt → (a ≡ Ok tt) × (b ≡ Ok tt)
