@@ -28,7 +28,7 @@ module _ (z : Nine) (own : ℕ) where
   own_1 e = sym (ap (λ (t : Bool). cond t (cond (leb z.stations own) (Err Station) (Ok tt)) (Err Settings)) e)
 
   module _ (e : in_range z ≡ true) (n : ℕ) (g : n ≡ z.stations) where
-    good : cond (leb n own) 2 Ok tt ≡ own_refusal z own
+    good : cond (leb n own) (Err Station) (Ok tt) ≡ own_refusal z own
     good = ap (λ (i : ℕ). cond (leb i own) (Err Station) (Ok tt)) g ∙ sym (ap (λ (t : Bool). cond t (cond (leb z.stations own) (Err Station) (Ok tt)) (Err Settings)) e)
 
     pub own_2 : n ≤ own → Err Station ≡ own_refusal z own
