@@ -1,3 +1,4 @@
+pub mod Others
 pub mod Ways
 pub mod Said
 pub mod Steps
