@@ -1,13 +1,14 @@
--- What an event that is not refused by 1 to 6 tells.
+-- Each way through refusals 1 to 6, and what it tells that none applies.
 -- Assumes nothing.
-use mathlib.Core.Path.{◌≡◌}
+use mathlib.Core.Path.{◌≡◌, refl, sym}
 use mathlib.Core.Bool.{true, false}
 use Prim.Native.Nat.{ℕ, ◌<◌, ◌≤◌}
 use native.Mathlib.Omega.{arith}
 use lib.Dec.{leb}
-use Rattle.std.proofs.Common.{Ok}
+use Rattle.std.proofs.Common.{Ok, Err}
 use borrow.Author.Tests.{leb-false}
-use Rattle.refusals.specs.Refusal.{or_else}
+use Rattle.refusals.specs.Refusal.{Verdict, or_else}
+use Rattle.refusals.specs.declared.Refusal.{Refusal}
 use Rattle.refusals.specs.declared.Refusal.TheVariants as refused
 use Rattle.refusals.proofs.Choice.{or_ok, past_if, past_unless}
 use Rattle.timing.specs.Limits.{reading_limit, most_stations, most_profiles}
@@ -20,6 +21,19 @@ use Rattle.requests.specs.Request.{profile_of, request_refusal}
 use Rattle.requests.proofs.Back.{named_below}
 use Rattle.judging.specs.Event.{Request, Event, Message}
 use Rattle.judging.specs.Refusal.{event_refusal, refusal}
+
+module _ (z : Settings) (last now : ℕ) (e : Event) where
+  pub bad_settings : in_range z ≡ false → Err refused.Settings ≡ refusal z last now e
+  unfolding refusal
+  bad_settings h = rw h refl
+
+  pub named : in_range z ≡ true → (r : Refusal) → Err r ≡ event_refusal z e → Err r ≡ refusal z last now e
+  unfolding refusal
+  named good r q = rw (good, sym q) refl
+
+  pub unnamed : in_range z ≡ true → Ok tt ≡ event_refusal z e → (v : Verdict) → v ≡ reading_refusal last now → v ≡ refusal z last now e
+  unfolding refusal
+  unnamed good q v r = rw (good, sym q) r
 
 module _ (z : Settings) (last now : ℕ) (e : Event) (accepted : refusal z last now e ≡ Ok tt) where
   parts : (in_range z ≡ true) × (or_else (event_refusal z e) (reading_refusal last now) ≡ Ok tt)

@@ -3,7 +3,7 @@
 use Rattle.std.specs.Prelude.{Bool, true, false, cond, [], ℕ, Option, Some, Result, Ok, Err}
 use Rattle.std.specs.Option.{unwrap_or, option_and}
 use Rattle.masks.specs.Mask.{mask, set_of}
-use Rattle.refusals.specs.Refusal.{Verdict}
+use Rattle.refusals.specs.Refusal.{number, Verdict}
 use Rattle.refusals.specs.declared.Refusal.{Refusal}
 use Rattle.timing.specs.Limits.{most_stations}
 use Rattle.timing.specs.declared.settings.Settings.{Settings}
@@ -11,6 +11,7 @@ use Rattle.members.specs.declared.member.Member.{Member}
 use Rattle.profiles.specs.declared.profile.Profile.{Profile}
 use Rattle.profiles.specs.Profile.{empty_profile}
 use Rattle.profiles.specs.Sets.{only}
+use Rattle.profiles.specs.Said.{Said, said}
 use Rattle.requests.specs.declared.Request.{Request}
 use Rattle.requests.specs.Request.{profile_of}
 use Rattle.hearing.specs.declared.Heard.{Heard}
@@ -73,3 +74,21 @@ unfoldable pub judged_for : Result Looked Refusal → ℕ → ℕ → Event → 
 judged_for (Ok l) last now (Message i k q) = judged_at now (Leaves (heard_for l now k q))
 judged_for (Ok l) last now Tick = judged_at now Ticks
 judged_for (Err r) last now e = judged_at last (Refused r)
+
+-- all that is judged, the refusal and the answer in the paper's numbers and values
+pub data Done : Type 0 where
+  refused : ℕ → Done
+  ticks : Done
+  leaves : Route → Member → Option Profile → ℕ → Said → Done
+
+pub record Told : Type 0 where
+  pub reading : ℕ
+  pub done : Done
+
+abbrev pub done_as : Outcome → Done
+done_as (Refused r) = Done.refused (number r)
+done_as Ticks = Done.ticks
+done_as (Leaves a) = Done.leaves a.route a.member a.profile a.gone (said a.answer)
+
+abbrev pub told : Judged → Told
+told j = record { reading = j.reading; done = done_as j.outcome }
