@@ -1,4 +1,5 @@
 // What all streams have in common.
+use refusals::Refusal;
 use timing::settings::Settings;
 
 // The most stations and profiles, and an answer time that no stream reaches.
@@ -22,6 +23,6 @@ pub(crate) fn number(n: u64) -> u32 {
 }
 
 // What a refusal adds to a sum.
-pub(crate) fn refused(code: u8) -> u64 {
-    100 + u64::from(code)
+pub(crate) fn refused(refusal: Refusal) -> u64 {
+    100 + u64::from(refusal.number())
 }

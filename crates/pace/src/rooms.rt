@@ -2,8 +2,10 @@
 use crate::ground;
 use crate::sums::Sum;
 use modes::Mode;
-use station::event::{Ack, Advice, Answer, Event, PhaseAnswer, Request, UseAnswer};
+use refusals::Refusal;
+use station::event::{Ack, Advice, Answer, Event, Request};
 use station::station::Station;
+use timing::settings::Phase;
 
 // Each of the first four is two events in turn.
 #[derive(Clone, Copy)]
@@ -78,23 +80,23 @@ fn answer_value(answer: Answer) -> u64 {
         Answer::Advice(Advice::Keep) => 2,
         Answer::Advice(Advice::WriteOut) => 3,
         Answer::Advice(Advice::Release) => 4,
-        Answer::Refused(code) => ground::refused(code),
+        Answer::Refused(refusal) => ground::refused(refusal),
     }
 }
 
-fn phase_value(answer: PhaseAnswer) -> u64 {
+fn phase_value(answer: Result<Option<Phase>, Refusal>) -> u64 {
     match answer {
-        PhaseAnswer::Phase(phase) => u64::from(phase),
-        PhaseAnswer::Out => 5,
-        PhaseAnswer::Refused(code) => ground::refused(code),
+        Ok(Some(phase)) => phase as u64 + 1,
+        Ok(None) => 5,
+        Err(refusal) => ground::refused(refusal),
     }
 }
 
-fn use_value(answer: UseAnswer) -> u64 {
+fn use_value(answer: Result<bool, Refusal>) -> u64 {
     match answer {
-        UseAnswer::Yes => 1,
-        UseAnswer::No => 2,
-        UseAnswer::Refused(code) => ground::refused(code),
+        Ok(true) => 1,
+        Ok(false) => 2,
+        Err(refusal) => ground::refused(refusal),
     }
 }
 

@@ -88,7 +88,7 @@ fn value_of(answer: Answer) -> u64 {
         Answer::InUse(_) => 2,
         Answer::Nack(detail) => 3 + u64::from(detail),
         Answer::Ticked(freed, started) => 5 + freed % 65_536 + started % 65_536,
-        Answer::Refused(code) => ground::refused(code),
+        Answer::Refused(refusal) => ground::refused(refusal),
     }
 }
 
