@@ -6,14 +6,14 @@ mod story; // the rows of a server
 
 use modes::Mode;
 use record::Message;
-use say::{Phase, Record, TicksLeft, row};
+use refusals::Refusal;
+use say::{AtPhase, Record, Told, row};
 use station::event::{Ack, Event, Request};
 use station::station::Station;
 use std::io;
 use std::io::Print;
 use timing::lease::Lease;
 use timing::settings::Settings;
-use writer::Put;
 
 fn main(rt: HostRuntime) -> io::Result<()> {
     waits(&rt)?;
@@ -47,9 +47,9 @@ fn waits(rt: &impl Print) -> io::Result<()> {
         row(
             rt,
             "wait of lease",
-            settings.lease(),
+            Told(settings.lease()),
             should,
-            settings.wait(),
+            Told(settings.wait()),
         )?;
     }
     Ok(())
@@ -73,7 +73,8 @@ fn phases(rt: &impl Print) -> io::Result<()> {
         (110, "out"),
     ];
     for (reading, should) in rows {
-        row(rt, "phase at", reading, should, Phase(room.phase(reading)))?;
+        let phase = room.phase(reading).map(AtPhase);
+        row(rt, "phase at", reading, should, Told(phase))?;
     }
     Ok(())
 }
@@ -81,8 +82,8 @@ fn phases(rt: &impl Print) -> io::Result<()> {
 // Of a lease of 10 ticks that starts at 100.
 fn left(rt: &impl Print) -> io::Result<()> {
     for (reading, should) in [(110, "0"), (111, "-1")] {
-        let ticks = TicksLeft(Lease::left(100, 10, reading));
-        row(rt, "ticks left at", reading, should, ticks)?;
+        let ticks = Lease::left(100, 10, reading);
+        row(rt, "ticks left at", reading, should, Told(ticks))?;
     }
     Ok(())
 }
@@ -99,12 +100,10 @@ fn asked(mode: u8) -> Message {
     }
 }
 
-fn written(mode: u8) -> Result<[u8; Message::LENGTH], u8> {
+fn written(mode: u8) -> Result<[u8; Message::LENGTH], Refusal> {
     let mut bytes = [0u8; Message::LENGTH];
-    match writer::put_record(&mut bytes, asked(mode)) {
-        Put::Next(_) => Ok(bytes),
-        Put::Refused(refusal) => Err(refusal),
-    }
+    writer::put_record(&mut bytes, asked(mode))?;
+    Ok(bytes)
 }
 
 fn records(rt: &impl Print) -> io::Result<()> {
@@ -113,13 +112,8 @@ fn records(rt: &impl Print) -> io::Result<()> {
         (7, "refused 18"),
     ];
     for (mode, should) in rows {
-        row(
-            rt,
-            "record in mode",
-            u64::from(mode),
-            should,
-            Record(written(mode)),
-        )?;
+        let record = written(mode).map(Record);
+        row(rt, "record in mode", mode, should, Told(record))?;
     }
     Ok(())
 }

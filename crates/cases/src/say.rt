@@ -1,76 +1,60 @@
 // How a row is printed, and in it what the engines answer.
 use record::Message;
+use refusals::Refusal;
 use server::event::Answer;
-use station::event::PhaseAnswer;
 use std::io::Print;
 use std::{fmt, io};
-use timing::lease::Left;
+use timing::settings::Phase;
 
 // A row: what is asked, what it should be, and what it was.
 pub(crate) fn row(
     rt: &impl Print,
     name: &str,
-    asked: u64,
+    asked: impl fmt::Display + Drop,
     should: &str,
     was: impl fmt::Display + Drop,
 ) -> io::Result<()> {
     println!(rt; "{name} {asked}: should be {should}, was {was}")
 }
 
-// A refusal, by its number.
+// An answer, or why it is refused.
 #[derive(Drop)]
-pub(crate) struct Refused(pub(crate) u8);
+pub(crate) struct Told<T>(pub(crate) Result<T, Refusal>);
 
-impl fmt::Display for Refused {
+impl<T: fmt::Display> fmt::Display for Told<T> {
     fn fmt<W: fmt::Write>(&self, f: &mut fmt::Formatter<W>) -> fmt::Result {
-        write!(f, "refused {}", self.0)
-    }
-}
-
-#[derive(Drop)]
-pub(crate) struct Phase(pub(crate) PhaseAnswer);
-
-impl fmt::Display for Phase {
-    fn fmt<W: fmt::Write>(&self, f: &mut fmt::Formatter<W>) -> fmt::Result {
-        match self.0 {
-            PhaseAnswer::Phase(phase) => write!(f, "{phase}"),
-            PhaseAnswer::Out => write!(f, "out"),
-            PhaseAnswer::Refused(refusal) => Refused(refusal).fmt(f),
+        match &self.0 {
+            Ok(answer) => answer.fmt(f),
+            Err(refusal) => refusal.fmt(f),
         }
     }
 }
 
+// The number of a phase; none is out.
 #[derive(Drop)]
-pub(crate) struct TicksLeft(pub(crate) Left);
+pub(crate) struct AtPhase(pub(crate) Option<Phase>);
 
-impl fmt::Display for TicksLeft {
+impl fmt::Display for AtPhase {
     fn fmt<W: fmt::Write>(&self, f: &mut fmt::Formatter<W>) -> fmt::Result {
         match self.0 {
-            Left::Ticks(ticks) => write!(f, "{ticks}"),
-            Left::Refused(refusal) => Refused(refusal).fmt(f),
+            Some(phase) => write!(f, "{}", phase as u8 + 1),
+            None => write!(f, "out"),
         }
     }
 }
 
-// The bytes of a record in upper case, a space between two, or the refusal of its message.
+// The bytes of a record in upper case, a space between two.
 #[derive(Drop)]
-pub(crate) struct Record(pub(crate) Result<[u8; Message::LENGTH], u8>);
+pub(crate) struct Record(pub(crate) [u8; Message::LENGTH]);
 
 impl fmt::Display for Record {
     fn fmt<W: fmt::Write>(&self, f: &mut fmt::Formatter<W>) -> fmt::Result {
-        match &self.0 {
-            Ok(bytes) => write_bytes(f, bytes),
-            Err(refusal) => Refused(*refusal).fmt(f),
+        for (i, byte) in self.0.iter().enumerate() {
+            let space = if i == 0 { "" } else { " " };
+            write!(f, "{space}{byte:02X}")?;
         }
+        Ok(())
     }
-}
-
-fn write_bytes<W: fmt::Write>(f: &mut fmt::Formatter<W>, bytes: &[u8]) -> fmt::Result {
-    for (i, byte) in bytes.iter().enumerate() {
-        let space = if i == 0 { "" } else { " " };
-        write!(f, "{space}{byte:02X}")?;
-    }
-    Ok(())
 }
 
 #[derive(Drop)]
@@ -87,7 +71,7 @@ impl fmt::Display for Served {
             Answer::InUse(profile) => write!(f, "in use {profile}"),
             Answer::Nack(detail) => write!(f, "NACK {detail}"),
             Answer::Ticked(freed, started) => write!(f, "freed {freed} started {started}"),
-            Answer::Refused(refusal) => Refused(refusal).fmt(f),
+            Answer::Refused(refusal) => refusal.fmt(f),
         }
     }
 }
