@@ -4,6 +4,7 @@ use crate::room_line::{RoomLine, Turn};
 use crate::room_reply::{EventReply, RoomReply};
 use crate::server_line::ServerLine;
 use crate::server_reply::ServerReply;
+use refusals::Refusal;
 use server::server::{Server, step_in};
 use station::station::Station;
 use timing::settings::Settings;
@@ -27,16 +28,17 @@ impl Engines {
         Reply::Server(ServerReply(step_in(&mut self.server, line.reading, line.event)))
     }
 
-    pub(crate) fn turn(&mut self, line: RoomLine) -> Reply {
+    pub(crate) fn turn(&mut self, line: RoomLine) -> Result<Reply, Refusal> {
         let room = &mut self.rooms[usize::from(line.room.number)];
-        Reply::Room(match line.turn {
+        let reply = match line.turn {
             Turn::Event(event) => {
                 let after = room.step(line.reading, event);
                 *room = after.station;
                 RoomReply::Event(EventReply(after.answer), after.lost, after.count)
             }
-            Turn::Phase => RoomReply::Phase(room.phase(line.reading)),
-            Turn::Use(profile) => RoomReply::Use(room.may_use(line.reading, profile)),
-        })
+            Turn::Phase => RoomReply::Phase(room.phase(line.reading)?),
+            Turn::Use(profile) => RoomReply::Use(room.may_use(line.reading, profile)?),
+        };
+        Ok(Reply::Room(reply))
     }
 }

@@ -1,7 +1,7 @@
 // The script, played line by line.
 use crate::engines::Engines;
 use crate::line::Line;
-use crate::reply::Reply;
+use crate::reply::{Fault, Reply};
 use crate::script::Script;
 use std::io;
 use std::io::{BufWriter, Read, Write};
@@ -23,29 +23,30 @@ impl Player {
         self.engines = Some(Engines::new(settings));
     }
 
+    fn engines(&mut self) -> Result<&mut Engines, Fault> {
+        self.engines.as_mut().ok_or(Fault::NoSettings)
+    }
+
     // What is printed for a line, if anything is.
-    fn reply(&mut self, line: &[u8]) -> Option<Reply> {
-        let Some(line) = Line::of(line) else {
-            return Some(Reply::Bad);
-        };
-        let engines = self.engines.as_mut();
-        Some(match line {
-            Line::Silent => return None,
+    fn reply(&mut self, line: &[u8]) -> Result<Option<Reply>, Fault> {
+        let reply = match Line::of(line).ok_or(Fault::BadLine)? {
+            Line::Silent => return Ok(None),
             Line::Settings(settings) => {
                 self.set(settings);
-                return None;
+                return Ok(None);
             }
-            Line::Server(line) => engines.map_or(Reply::NoSettings, |engines| engines.serve(line)),
-            Line::Room(line) => engines.map_or(Reply::NoSettings, |engines| engines.turn(line)),
-            Line::Widen { last, counter } => Reading::widen(last, counter).into(),
+            Line::Server(line) => self.engines()?.serve(line),
+            Line::Room(line) => self.engines()?.turn(line)?,
+            Line::Widen { last, counter } => Reply::Reading(Reading::widen(last, counter)?),
             Line::Left {
                 start,
                 length,
                 reading,
-            } => Lease::left(start, length, reading).into(),
-            Line::Read(line) => line.reply(),
+            } => Reply::Ticks(Lease::left(start, length, reading)?),
+            Line::Read(line) => line.reply()?,
             Line::Write(line) => line.reply(),
-        })
+        };
+        Ok(Some(reply))
     }
 }
 
@@ -62,8 +63,10 @@ pub(crate) fn play<R: Read + Drop, W: Write + Drop>(
         let Some(line) = script.next_line()? else {
             break;
         };
-        if let Some(reply) = player.reply(line) {
-            writeln!(answers, "{reply}")?;
+        match player.reply(line) {
+            Ok(Some(reply)) => writeln!(answers, "{reply}")?,
+            Ok(None) => {}
+            Err(fault) => writeln!(answers, "{fault}")?,
         }
     }
     answers.flush()

@@ -2,8 +2,8 @@
 use crate::hex::{Bytes, MOST, bytes_of};
 use crate::reply::Reply;
 use crate::words::Words;
-use record::{Message, Read};
-use writer::Put;
+use record::Message;
+use refusals::Refusal;
 
 // What the buffer of a `write` line holds before it.
 const UNWRITTEN: u8 = 0xEE;
@@ -24,11 +24,9 @@ impl ReadLine {
         })
     }
 
-    pub(crate) fn reply(&self) -> Reply {
-        match record::record_at(self.received.as_slice(), self.place) {
-            Read::Record(message, next) => Reply::Message(message, next),
-            Read::Refused(refusal) => Reply::Refused(refusal),
-        }
+    pub(crate) fn reply(&self) -> Result<Reply, Refusal> {
+        let (message, next) = record::record_at(self.received.as_slice(), self.place)?;
+        Ok(Reply::Message(message, next))
     }
 }
 
@@ -53,10 +51,8 @@ impl WriteLine {
     pub(crate) fn reply(self) -> Reply {
         let mut buffer = Bytes::from([UNWRITTEN; MOST]);
         buffer.truncate(self.room);
-        match writer::put_at(buffer.as_mut_slice(), self.place, self.message) {
-            Put::Next(next) => Reply::Written(next, buffer),
-            Put::Refused(refusal) => Reply::Unwritten(refusal, buffer),
-        }
+        let put = writer::put_at(buffer.as_mut_slice(), self.place, self.message);
+        Reply::Written(put, buffer)
     }
 }
 

@@ -1,25 +1,27 @@
 // What a room answers.
-use station::event::{Advice, Answer, PhaseAnswer, Request, UseAnswer};
+use station::event::{Advice, Answer, Request};
 use std::fmt;
+use timing::settings::Phase;
 
 #[derive(Clone, Copy)]
 pub(crate) enum RoomReply {
     // To an event, with the lost profiles as a mask and their count.
     Event(EventReply, u64, u32),
-    Phase(PhaseAnswer),
-    Use(UseAnswer),
+    // None where it is out.
+    Phase(Option<Phase>),
+    // Whether it may.
+    Use(bool),
 }
 
 impl fmt::Display for RoomReply {
     fn fmt<W: fmt::Write>(&self, f: &mut fmt::Formatter<W>) -> fmt::Result {
         match *self {
             RoomReply::Event(reply, lost, count) => write!(f, "{reply} lost {lost} count {count}"),
-            RoomReply::Phase(PhaseAnswer::Phase(phase)) => write!(f, "phase {phase}"),
-            RoomReply::Phase(PhaseAnswer::Out) => write!(f, "phase out"),
-            RoomReply::Phase(PhaseAnswer::Refused(refusal)) => write!(f, "refused {refusal}"),
-            RoomReply::Use(UseAnswer::Yes) => write!(f, "use yes"),
-            RoomReply::Use(UseAnswer::No) => write!(f, "use no"),
-            RoomReply::Use(UseAnswer::Refused(refusal)) => write!(f, "refused {refusal}"),
+            // "1 to 4"
+            RoomReply::Phase(Some(phase)) => write!(f, "phase {}", phase as u8 + 1),
+            RoomReply::Phase(None) => write!(f, "phase out"),
+            RoomReply::Use(true) => write!(f, "use yes"),
+            RoomReply::Use(false) => write!(f, "use no"),
         }
     }
 }
@@ -35,7 +37,7 @@ impl fmt::Display for EventReply {
             Answer::Advice(Advice::Keep) => write!(f, "advice keep"),
             Answer::Advice(Advice::WriteOut) => write!(f, "advice write"),
             Answer::Advice(Advice::Release) => write!(f, "advice release"),
-            Answer::Refused(refusal) => write!(f, "refused {refusal}"),
+            Answer::Refused(refusal) => write!(f, "{refusal}"),
         }
     }
 }

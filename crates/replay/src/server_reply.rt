@@ -20,7 +20,7 @@ impl fmt::Display for ServerReply {
             Answer::InUse(profile) => write!(f, "ack inuse {profile}"),
             Answer::Nack(detail) => write!(f, "nack {detail}"),
             Answer::Ticked(freed, started) => write!(f, "tick freed {freed} started {started}"),
-            Answer::Refused(refusal) => write!(f, "refused {refusal}"),
+            Answer::Refused(refusal) => write!(f, "{refusal}"),
         }
     }
 }
