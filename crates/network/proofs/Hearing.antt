@@ -8,7 +8,9 @@ use mathlib.Core.Logic.{◌⊎◌, inl, inr}
 use Prim.Native.Nat.{ℕ, zero, suc, ◌<◌}
 use native.Mathlib.Nat.{le_refl}
 use native.Mathlib.Omega.{arith}
+use Rattle.std.proofs.Common.{Some, Err}
 use borrow.Author.Tests.{ne_eqb}
+use Rattle.refusals.specs.declared.Refusal.{Refusal}
 use Rattle.record.specs.declared.message.Message.{Message}
 use Rattle.modes.specs.Modes.{mode, covers}
 use Rattle.modes.proofs.Laws.{covers_none, covers_trans, join_left}
@@ -29,7 +31,6 @@ use Rattle.server.specs.State.{status_of, last_of, mode_of}
 use Rattle.judging.specs.Refusal.{refusal}
 use Rattle.requests.specs.Request.{asked_as, request_of}
 use Rattle.server.specs.Step.{step}
-use Rattle.server.specs.declared.border.Meant.TheVariants.{For}
 use Rattle.server.specs.Border.{sent_for, meant_by, event_of}
 use Rattle.server.proofs.Serves.{Accepted, at, changed_at, all_of, own, no_lock, Serves, at_same, at_other, changed_here, changed_other, own_here, own_so, own_other}
 use Rattle.server.proofs.InTheWay.{wanted_on}
@@ -166,18 +167,18 @@ module _ (z : Settings) (w : World) (h : List Moment) (cs : ℕ → ℕ) (I : So
       Pairs (step wait s now (Said i k q)) (sent_for i k (step wait s now (Said i k q)).answer)
   Kept Tick = Unit {0}
 
-  on_refused : (e : Event) (n : ℕ) → refusal s.settings s.reading now e ≡ suc n → Kept e
+  on_refused : (e : Event) (r : Refusal) → refusal s.settings s.reading now e ≡ Err r → Kept e
   unfolding sent_for
-  on_refused (Said i k q) n e =
-      λ m up number means. subst (λ (r : Served). Pairs r (sent_for i k r.answer)) (sym (refused wait s now (Said i k q) n e)) I.pair
-  on_refused Tick n e = tt
+  on_refused (Said i k q) r e =
+      λ m up number means. subst (λ (t : Served). Pairs t (sent_for i k t.answer)) (sym (refused wait s now (Said i k q) r e)) I.pair
+  on_refused Tick r e = tt
 
   inside : (i k : ℕ) (q : Request) → Accepted s now (Said i k q) → i < z.stations
   inside i k q a = (below z wait s now I.server i k q a).0
 
   on_case : {e : Event} → Case s now e → Kept e
   unfolding sent_for
-  on_case {e} (Case.refused n r) = on_refused e n r
+  on_case {e} (Case.refused r h) = on_refused e r h
   on_case (Case.ticks a) = tt
   on_case (Case.stale {i} {k} {q} a old) =
       λ m up number means. subst (λ (r : Served). Pairs r (sent_for i k r.answer)) (sym (stale wait s now i k I.server.lengths q a old)) I.pair
@@ -210,7 +211,7 @@ module _ (z : Settings) (w : World) (h : List Moment) (cs : ℕ → ℕ) (I : So
       takes i k m up number b new (ask_wait wait s now i k I.server.lengths new live p asked a held kept) (quiet i k m up number b new live)
 
   module _ (m : Message) (sent : Memᴰ m w.up) where
-    on_request : (q : Request) → Means m q → Sound z (hearing wait w now m (For (Said m.station m.number q))) h cs
+    on_request : (q : Request) → Means m q → Sound z (hearing wait w now m (Some (Said m.station m.number q))) h cs
     on_request q means =
         let e = Said m.station m.number q in
         record {
