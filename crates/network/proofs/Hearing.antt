@@ -32,7 +32,7 @@ use Rattle.judging.specs.Refusal.{refusal}
 use Rattle.requests.specs.Request.{asked_as, request_of}
 use Rattle.server.specs.Step.{step}
 use Rattle.server.specs.Border.{sent_for, meant_by, event_of}
-use Rattle.server.proofs.Serves.{Accepted, at, changed_at, all_of, own, no_lock, Serves, at_same, at_other, changed_here, changed_other, own_here, own_so, own_other}
+use Rattle.server.proofs.Serves.{Accepted, at, changed_at, all_of, own, no_lock, Serves, Told, at_same, at_other, changed_here, changed_other, own_here, own_so, own_other}
 use Rattle.server.proofs.InTheWay.{wanted_on}
 use Rattle.server.proofs.Events.{refused, stale, nack_0, nack_1, hello, keep_alive, release, keep, ask_granted, ask_in_use, ask_wait}
 use Rattle.server.proofs.Cases.{Case, case_of}
@@ -176,39 +176,34 @@ module _ (z : Settings) (w : World) (h : List Moment) (cs : ℕ → ℕ) (I : So
   inside : (i k : ℕ) (q : Request) → Accepted s now (Said i k q) → i < z.stations
   inside i k q a = (below z wait s now I.server i k q a).0
 
+  -- a message whose answer leaves statuses and modes
+  stays : (i k : ℕ) (q : Request) {r : Answer} {ν : ℕ → ℕ → Mark} → Accepted s now (Said i k q) → last_of s i < k →
+      Sure r (status_of s i) (mode_of s i) → Told wait s now i k q r (status_of s) (mode_of s) ν → Kept (Said i k q)
+  stays i k q a new sure law m up number means =
+      let b = inside i k q a in
+      takes i k m up number b new law (quiet i k m up number b new sure)
+
   on_case : {e : Event} → Case s now e → Kept e
   unfolding sent_for
   on_case {e} (Case.refused r h) = on_refused e r h
   on_case (Case.ticks a) = tt
   on_case (Case.stale {i} {k} {q} a old) =
       λ m up number means. subst (λ (r : Served). Pairs r (sent_for i k r.answer)) (sym (stale wait s now i k I.server.lengths q a old)) I.pair
-  on_case (Case.nack_0 {i} {k} {q} a new since e) =
-      λ m up number means. let b = inside i k q a in
-      takes i k m up number b new (nack_0 wait s now i k I.server.lengths q a new since e) (quiet i k m up number b new tt)
-  on_case (Case.nack_1 {i} {k} {q} a new other e) =
-      λ m up number means. let b = inside i k q a in
-      takes i k m up number b new (nack_1 wait s now i k I.server.lengths q a new other e) (quiet i k m up number b new tt)
+  on_case (Case.nack_0 {i} {k} {q} a new since e) = stays i k q a new tt (nack_0 wait s now i k I.server.lengths q a new since e)
+  on_case (Case.nack_1 {i} {k} {q} a new other e) = stays i k q a new tt (nack_1 wait s now i k I.server.lengths q a new other e)
   on_case (Case.hello {i} {k} a new settled) =
       λ m up number means. let b = inside i k Hello a in
       takes i k m up number b new (hello wait s now i k I.server.lengths new a settled) (greeted i k m up number b new means)
-  on_case (Case.keep_alive {i} {k} a new live) =
-      λ m up number means. let b = inside i k KeepAlive a in
-      takes i k m up number b new (keep_alive wait s now i k I.server.lengths new live a) (quiet i k m up number b new live)
+  on_case (Case.keep_alive {i} {k} a new live) = stays i k KeepAlive a new live (keep_alive wait s now i k I.server.lengths new live a)
   on_case (Case.release {i} {k} {p} a new live) =
       λ m up number means. let b = inside i k (Release p) a in
       takes i k m up number b new (release wait s now i k I.server.lengths new live p a) (released i k m up number b new p means.0 means.1 live)
-  on_case (Case.keep {i} {k} {p} a new live) =
-      λ m up number means. let b = inside i k (Keep p) a in
-      takes i k m up number b new (keep wait s now i k I.server.lengths new live p a) (quiet i k m up number b new live)
+  on_case (Case.keep {i} {k} {p} a new live) = stays i k (Keep p) a new live (keep wait s now i k I.server.lengths new live p a)
   on_case (Case.ask_granted {i} {k} {p} {asked} a new live free) =
       λ m up number means. let b = inside i k (Ask p asked) a in
       takes i k m up number b new (ask_granted wait s now i k I.server.lengths new live p asked a free) (given i k m up number b new p asked.0 live)
-  on_case (Case.ask_in_use {i} {k} {p} {asked} a new live kept) =
-      λ m up number means. let b = inside i k (Ask p asked) a in
-      takes i k m up number b new (ask_in_use wait s now i k I.server.lengths new live p asked a kept) (quiet i k m up number b new live)
-  on_case (Case.ask_wait {i} {k} {p} {asked} a new live held kept) =
-      λ m up number means. let b = inside i k (Ask p asked) a in
-      takes i k m up number b new (ask_wait wait s now i k I.server.lengths new live p asked a held kept) (quiet i k m up number b new live)
+  on_case (Case.ask_in_use {i} {k} {p} {asked} a new live kept) = stays i k (Ask p asked) a new live (ask_in_use wait s now i k I.server.lengths new live p asked a kept)
+  on_case (Case.ask_wait {i} {k} {p} {asked} a new live held kept) = stays i k (Ask p asked) a new live (ask_wait wait s now i k I.server.lengths new live p asked a held kept)
 
   module _ (m : Message) (sent : Memᴰ m w.up) where
     on_request : (q : Request) → Means m q → Sound z (hearing wait w now m (Some (Said m.station m.number q))) h cs

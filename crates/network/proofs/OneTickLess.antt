@@ -221,20 +221,16 @@ module _ (z : Settings) (good : in_range z ≡ true) (two : 2 ≤ z.stations) (w
       served.heard w (srv 0 0 0 Unknown Unknown 0 0 Unmarked) 0 0 1 Hello
       (served.free z good 0 0 (server.Message 0 1 Hello) (rw (lt-leb z.stations 0 here₀)) zero-le zero-le) (lit< tt)
 
-  named₀ : (k : ℕ) → event_refusal z (server.Message 0 k (Ask 0 (mode X))) ≡ Ok tt
+  ask_named : (i k : ℕ) → i < z.stations → event_refusal z (server.Message i k (Ask 0 (mode X))) ≡ Ok tt
   unfolding is_mode
-  named₀ k = rw (lt-leb z.stations 0 here₀, lt-leb z.profiles 0 any₀)
-
-  named₁ : (k : ℕ) → event_refusal z (server.Message 1 k (Ask 0 (mode X))) ≡ Ok tt
-  unfolding is_mode
-  named₁ k = rw (lt-leb z.stations 1 here₁, lt-leb z.profiles 0 any₀)
+  ask_named i k here = rw (lt-leb z.stations i here, lt-leb z.profiles 0 any₀)
 
   ask₀ : server_step w (srv 0 1 0 Live Unknown 0 0 Unmarked) 0 (server.Message 0 2 (Ask 0 (mode X)))
       ≡ record { server = srv 0 2 0 Live Unknown X 0 Unmarked; answer = says.Granted 0 (mode X) }
   unfolding by_status heed ask_rule conflicts join goes_with
   ask₀ =
       served.heard w (srv 0 1 0 Live Unknown 0 0 Unmarked) 0 0 2 (Ask 0 (mode X))
-      (served.free z good 0 0 (server.Message 0 2 (Ask 0 (mode X))) (named₀ 2) zero-le zero-le) (lit< tt)
+      (served.free z good 0 0 (server.Message 0 2 (Ask 0 (mode X))) (ask_named 0 2 here₀) zero-le zero-le) (lit< tt)
 
   hello₁ : server_step w (srv 0 2 0 Live Unknown X 0 Unmarked) 0 (server.Message 1 1 Hello)
       ≡ record { server = srv 0 2 1 Live Live X 0 Unmarked; answer = says.Done }
@@ -249,7 +245,7 @@ module _ (z : Settings) (good : in_range z ≡ true) (two : 2 ≤ z.stations) (w
   unfolding by_status heed ask_rule conflicts join goes_with
   ask₁ =
       served.heard w (srv 0 2 1 Live Live X 0 Unmarked) 0 1 2 (Ask 0 (mode X))
-      (served.free z good 0 0 (server.Message 1 2 (Ask 0 (mode X))) (named₁ 2) zero-le zero-le) (lit< tt)
+      (served.free z good 0 0 (server.Message 1 2 (Ask 0 (mode X))) (ask_named 1 2 here₁) zero-le zero-le) (lit< tt)
 
   alive₀ : (c₀ c k : ℕ) → c₀ ≤ c → c ≤ reading_limit → server_step w (srv c₀ k 2 Live Live X 0 (Demanded 0)) c (server.Message 0 (k + 1) KeepAlive)
       ≡ record { server = srv c (k + 1) 2 Live Live X 0 (Demanded 0); answer = says.Done }
@@ -281,7 +277,7 @@ module _ (z : Settings) (good : in_range z ≡ true) (two : 2 ≤ z.stations) (w
     unfolding by_status heed ask_rule conflicts join goes_with
     grant₁ =
         served.heard w (srv c k 3 Unknown Live 0 0 Unmarked) c 1 4 (Ask 0 (mode X))
-        (served.free z good c c (server.Message 1 4 (Ask 0 (mode X))) (named₁ 4) top (le_refl c)) (lit< tt)
+        (served.free z good c c (server.Message 1 4 (Ask 0 (mode X))) (ask_named 1 4 here₁) top (le_refl c)) (lit< tt)
 
   base : 1 ≤ z.d
   base = ok.rates.base
