@@ -16,18 +16,10 @@ use Rattle.modes.specs.Modes.{mode, covers}
 use Rattle.modes.proofs.Laws.{covers_none, covers_trans, join_left}
 use Rattle.timing.specs.declared.settings.Settings.{Settings}
 use Rattle.timing.specs.Settings.{lease}
-use Rattle.members.specs.declared.member.Status.{Status}
-use Rattle.members.specs.declared.member.Status.TheVariants.{Live}
-use Rattle.members.specs.declared.mark.Mark.{Mark}
+use Rattle.server.specs.State.{Status, Live, Mark, status_of, last_of, mode_of}
 use Rattle.server.specs.declared.server.Server.{Server}
 use Rattle.server.specs.declared.server.Served.{Served}
-use Rattle.requests.specs.declared.Request.{Request}
-use Rattle.requests.specs.declared.Request.TheVariants.{Hello, KeepAlive, Ask, Release, Keep}
-use Rattle.judging.specs.declared.event.Event.{Event}
-use Rattle.judging.specs.declared.event.Event.TheVariants.{Message as Said, Tick}
-use Rattle.profiles.specs.declared.answer.Answer.{Answer}
-use Rattle.profiles.specs.declared.answer.Answer.TheVariants.{Done, Granted}
-use Rattle.server.specs.State.{status_of, last_of, mode_of}
+use Rattle.server.specs.Event.{Request, Hello, KeepAlive, Ask, Release, Keep, Event, Message as Said, Tick, Answer, Done, Granted}
 use Rattle.judging.specs.Refusal.{refusal}
 use Rattle.requests.specs.Request.{asked_as, request_of}
 use Rattle.server.specs.Step.{step}

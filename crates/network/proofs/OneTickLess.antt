@@ -22,14 +22,10 @@ use Rattle.timing.proofs.Ranges.{Ranges, ranges}
 use Rattle.timing.proofs.Wait.{wait_sharp, wait_above_lease, wait_small}
 use Rattle.server.specs.declared.server.Server.{Server}
 use Rattle.server.specs.declared.server.Served.{Served}
-use Rattle.members.specs.declared.member.Status.{Status}
-use Rattle.members.specs.declared.member.Status.TheVariants.{Unknown, Live, TimingOut}
-use Rattle.members.specs.declared.mark.Mark.{Mark}
-use Rattle.members.specs.declared.mark.Mark.TheVariants.{Unmarked, Demanded}
+use Rattle.server.specs.State.{Status, Unknown, Live, TimingOut, Mark, Unmarked, Demanded, nobody, no_mark, empty_profile, new_server}
 use Rattle.judging.specs.declared.event.Event.TheVariants as server
-use Rattle.profiles.specs.declared.answer.Answer.{Answer as ServerAnswer}
+use Rattle.server.specs.Event.{Answer as ServerAnswer}
 use Rattle.profiles.specs.declared.answer.Answer.TheVariants as says
-use Rattle.server.specs.State.{nobody, no_mark, empty_profile, new_server}
 use Rattle.members.specs.Mark.{as_word}
 use Rattle.profiles.specs.Sets.{wiped, conflicts}
 use Rattle.profiles.specs.Ask.{ask_rule}

@@ -13,9 +13,8 @@ use Rattle.timing.specs.declared.settings.Settings.{Settings}
 use Rattle.timing.specs.Settings.{in_range, lease}
 use Rattle.timing.specs.Phase.{edge1, edge2, phase_after}
 use Rattle.timing.proofs.Phases.{in_first, in_second}
-use Rattle.room.specs.declared.event.Event.{Event}
+use Rattle.station.specs.Event.{Event, Open}
 use Rattle.station.specs.declared.station.Station.{Station}
-use Rattle.holds.specs.declared.stage.Standing.TheVariants.{Open}
 use Rattle.holds.specs.Stage.{early, phase_at, open_phase, is_out}
 use Rattle.room.specs.Refusal.{station_of, named_refusal, refusal}
 use Rattle.station.specs.Effect.{last_after, answer_to}

@@ -20,8 +20,7 @@ use Rattle.timing.specs.declared.settings.Settings.{Settings}
 use Rattle.timing.specs.Settings.{lease, in_range, Rate}
 use Rattle.timing.proofs.Ranges.{ranges}
 use Rattle.timing.proofs.Wait.{rate_sum, wait_enough, wait_sharp}
-use Rattle.members.specs.declared.member.Status.TheVariants.{Unknown}
-use Rattle.server.specs.State.{new_server, nobody, status_of, mode_of as server_mode}
+use Rattle.server.specs.State.{Unknown, new_server, nobody, status_of, mode_of as server_mode}
 use Rattle.server.proofs.Reachable.{new_unknown, new_nothing, sound_new}
 use Rattle.station.specs.declared.station.Station.{Station}
 use Rattle.holds.specs.Stage.{is_out}

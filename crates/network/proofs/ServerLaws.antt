@@ -10,9 +10,7 @@ use Rattle.timing.specs.Limits.{reading_limit}
 use Rattle.timing.specs.declared.settings.Settings.{Settings}
 use Rattle.timing.specs.Settings.{in_range}
 use Rattle.server.specs.declared.server.Server.{Server}
-use Rattle.judging.specs.declared.event.Event.{Event}
-use Rattle.judging.specs.declared.event.Event.TheVariants.{Message, Tick}
-use Rattle.requests.specs.declared.Request.{Request}
+use Rattle.server.specs.Event.{Event, Message, Tick, Request}
 use Rattle.server.specs.State.{member_at, profile_at, last_of, status_of}
 use Rattle.profiles.specs.Sets.{live_set}
 use Rattle.hearing.specs.Hear.{by_status, numbered}

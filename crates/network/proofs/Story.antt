@@ -13,15 +13,13 @@ use Rattle.record.specs.declared.message.Message.{Message}
 use Rattle.timing.specs.declared.settings.Settings.{Settings}
 use Rattle.server.specs.declared.server.Server.{Server}
 use Rattle.server.specs.declared.server.Served.{Served}
-use Rattle.judging.specs.declared.event.Event.{Event as ServerEvent}
+use Rattle.server.specs.Event.{Event as ServerEvent, Request}
 use Rattle.judging.specs.declared.event.Event.TheVariants as server
 use Rattle.server.specs.Step.{step as server_step}
 use Rattle.server.specs.Border.{sent_for, event_of as server_event}
 use Rattle.station.specs.declared.station.Station.{Station}
 use Rattle.station.specs.declared.station.Stepped.{Stepped}
-use Rattle.room.specs.declared.event.Event.{Event as RoomEvent}
-use Rattle.room.specs.declared.event.Event.TheVariants.{Send}
-use Rattle.requests.specs.declared.Request.{Request}
+use Rattle.station.specs.Event.{Event as RoomEvent, Send}
 use Rattle.station.specs.Station.{step as room_step}
 use Rattle.station.specs.Border.{sent_by, event_of as room_event}
 use Rattle.network.specs.Picture.{World, Moment, Happening, nothing, ticks, hears, gets, does, with_server, with_room, hearing, getting, next, run}

@@ -11,12 +11,10 @@ use borrow.Author.Tests.{leb-true}
 use Rattle.refusals.specs.Refusal.{Verdict}
 use Rattle.timing.specs.declared.settings.Settings.{Settings}
 use Rattle.timing.specs.Settings.{lease}
-use Rattle.members.specs.declared.member.Status.{Status}
-use Rattle.members.specs.declared.member.Status.TheVariants.{Unknown, Live, TimingOut}
+use Rattle.server.specs.State.{Status, Unknown, Live, TimingOut, status_of, mode_of}
 use Rattle.server.specs.declared.server.Server.{Server}
 use Rattle.server.specs.declared.server.Served.{Served}
-use Rattle.judging.specs.declared.event.Event.TheVariants.{Tick}
-use Rattle.server.specs.State.{status_of, mode_of}
+use Rattle.server.specs.Event.{Tick}
 use Rattle.profiles.specs.Sets.{is_waited}
 use Rattle.judging.specs.Refusal.{refusal}
 use Rattle.server.specs.Step.{step}

@@ -10,8 +10,7 @@ use Rattle.modes.specs.Modes.{goes_with}
 use Rattle.timing.specs.declared.settings.Settings.{Settings}
 use Rattle.timing.specs.Settings.{in_range, wait}
 use Rattle.station.specs.declared.station.Station.{Station}
-use Rattle.room.specs.declared.event.Event.{Event}
-use Rattle.room.specs.declared.event.Event.TheVariants.{Begin, Edit, WriteOut}
+use Rattle.station.specs.Event.{Event, Begin, Edit, WriteOut}
 use Rattle.station.specs.Station.{mode_of, may_use, step}
 use Rattle.station.proofs.Steps.{is_good}
 use Rattle.station.proofs.Uses.{InUse, begin_uses, edit_uses, write_uses}

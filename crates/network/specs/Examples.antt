@@ -6,11 +6,8 @@ use Rattle.record.specs.declared.message.Message.{Message}
 use Rattle.timing.specs.declared.settings.Settings.{Settings}
 use Rattle.timing.specs.Settings.{settings, wait}
 use Rattle.timing.specs.declared.settings.Phase.TheVariants.{Third}
-use Rattle.members.specs.declared.member.Status.TheVariants.{Unknown, TimingOut}
-use Rattle.server.specs.State.{status_of, mode_of as granted_to}
-use Rattle.holds.specs.declared.stage.Standing.TheVariants.{Closing}
-use Rattle.requests.specs.declared.Request.TheVariants.{Hello, KeepAlive, Ask, Release}
-use Rattle.room.specs.declared.event.Event.TheVariants.{Send, Begin, Edit, End, WriteOut, Demand}
+use Rattle.server.specs.State.{Unknown, TimingOut, status_of, mode_of as granted_to}
+use Rattle.station.specs.Event.{Closing, Hello, KeepAlive, Ask, Release, Send, Begin, Edit, End, WriteOut, Demand}
 use Rattle.station.specs.declared.event.Advice.TheVariants as advice
 use Rattle.station.specs.declared.event.Answer.TheVariants as answer
 use Rattle.station.specs.Station.{mode_of, unwritten_of, phase_asked, may_use, step}

@@ -5,14 +5,13 @@ use Rattle.record.specs.declared.message.Message.{Message}
 use Rattle.timing.specs.declared.settings.Settings.{Settings}
 use Rattle.server.specs.declared.server.Server.{Server}
 use Rattle.server.specs.declared.server.Served.{Served}
-use Rattle.judging.specs.declared.event.Event.{Event as ServerEvent}
-use Rattle.judging.specs.declared.event.Event.TheVariants as server
+use Rattle.server.specs.Event.{Event as ServerEvent, Tick}
 use Rattle.server.specs.State.{new_server}
 use Rattle.server.specs.Step.{step as server_step}
 use Rattle.server.specs.Border.{sent_for, event_of as server_event}
 use Rattle.station.specs.declared.station.Station.{Station}
 use Rattle.station.specs.declared.station.Stepped.{Stepped}
-use Rattle.room.specs.declared.event.Event.{Event}
+use Rattle.station.specs.Event.{Event}
 use Rattle.station.specs.Station.{new_station, step as room_step}
 use Rattle.station.specs.Border.{sent_by, event_of as room_event}
 
@@ -70,7 +69,7 @@ getting w i now None = w
 -- "true readings": each engine is told what its own clock reads at that moment
 unfoldable pub next : ℕ → World → Moment → Happening → World
 next wait w t nothing = w
-next wait w t ticks = with_server w (server_step wait w.server t.server server.Tick) []
+next wait w t ticks = with_server w (server_step wait w.server t.server Tick) []
 next wait w t (hears m) = hearing wait w t.server m (server_event m)
 next wait w t (gets i m) = getting w i (t.rooms i) (room_event m)
 next wait w t (does i e) = with_room w i (room_step (w.rooms i) (t.rooms i) e)
