@@ -30,7 +30,7 @@ impl<T: fmt::Display> fmt::Display for Told<T> {
     }
 }
 
-// The number of a phase; none is out.
+// The number of a phase, from 1 on; none is out.
 #[derive(Drop)]
 pub(crate) struct AtPhase(pub(crate) Option<Phase>);
 

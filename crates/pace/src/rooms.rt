@@ -84,6 +84,7 @@ fn answer_value(answer: Answer) -> u64 {
     }
 }
 
+// Phases count from 1.
 fn phase_value(answer: Result<Option<Phase>, Refusal>) -> u64 {
     match answer {
         Ok(Some(phase)) => phase as u64 + 1,
