@@ -37,14 +37,14 @@ pub data Case (s : Server) (now : ℕ) : Event → Type 0 where
 module _ (s : Server) (now : ℕ) where
   module _ (i k : ℕ) (new : last_of s i < k) where
     from_unknown : (q : Request) → Accepted s now (Message i k q) → status_of s i ≡ Unknown → Case s now (Message i k q)
-    from_unknown Hello a e = hello a new (λ since h. let z : ◌≡◌ {A = ℕ} 0 1 = cc in omega arith)
-    from_unknown KeepAlive a e = nack_1 a new (λ h. let z : ◌≡◌ {A = ℕ} 0 1 = cc in omega arith) e
-    from_unknown (Ask p asked) a e = nack_1 a new (λ h. let z : ◌≡◌ {A = ℕ} 0 1 = cc in omega arith) e
-    from_unknown (Release p) a e = nack_1 a new (λ h. let z : ◌≡◌ {A = ℕ} 0 1 = cc in omega arith) e
-    from_unknown (Keep p) a e = nack_1 a new (λ h. let z : ◌≡◌ {A = ℕ} 0 1 = cc in omega arith) e
+    from_unknown Hello a e = hello a new (λ since h. grind arith)
+    from_unknown KeepAlive a e = nack_1 a new (λ h. grind arith) e
+    from_unknown (Ask p asked) a e = nack_1 a new (λ h. grind arith) e
+    from_unknown (Release p) a e = nack_1 a new (λ h. grind arith) e
+    from_unknown (Keep p) a e = nack_1 a new (λ h. grind arith) e
 
     from_live : (q : Request) → Accepted s now (Message i k q) → status_of s i ≡ Live → Case s now (Message i k q)
-    from_live Hello a e = hello a new (λ since h. let z : ◌≡◌ {A = ℕ} 0 1 = cc in omega arith)
+    from_live Hello a e = hello a new (λ since h. grind arith)
     from_live KeepAlive a e = keep_alive a new e
     from_live (Release p) a e = release a new e
     from_live (Keep p) a e = keep a new e

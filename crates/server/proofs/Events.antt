@@ -44,11 +44,7 @@ refused wait s now e r h = ap (λ (v : Verdict). if_good v wait s now e) h
 -- what a station that is not known is told
 unwelcome : (q : Request) → (q ≡ Hello → ⊥) → (m : Member) (x : Profile) → welcome q m x ≡ answered m x (Nack 1)
 unfolding welcome
-unwelcome Hello h m x = absurd (h refl)
-unwelcome KeepAlive h m x = refl
-unwelcome (Ask p a) h m x = refl
-unwelcome (Release p) h m x = refl
-unwelcome (Keep p) h m x = refl
+unwelcome q h m x = grind arith
 
 module _ (wait : ℕ) (s : Server) (now i k : ℕ) (sized : Sized s) where
   module _ (q : Request) (accepted : Accepted s now (Message i k q)) where

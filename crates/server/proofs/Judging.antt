@@ -7,6 +7,7 @@ use Prim.Native.Nat.{ℕ}
 use Rattle.std.proofs.Common.{Option, Some, None, Ok, Err}
 use Rattle.std.specs.Option.{unwrap_or}
 use Rattle.std.specs.Result.{result_unwrap_or}
+use native.Mathlib.Omega.{arith}
 use lib.ListN.{length, set}
 use lib.Seq.{set-get_or}
 use Rattle.refusals.specs.Refusal.{Verdict}
@@ -34,8 +35,7 @@ use Rattle.server.specs.Settle.{profile_if, live_if, judge_at, judge_on, stored,
 
 -- all profiles wiped of who is gone
 gone_wiped : (b : Bool) (i : ℕ) (xs : List Profile) → map (wiped_under (mask (cond b (only i) []))) xs ≡ wiped_if b i xs
-gone_wiped true i xs = wiped_all (only i) (mask (only i)) refl xs
-gone_wiped false i xs = sym (none_wiped xs)
+gone_wiped b i xs = grind (arith, wiped_all (only i) (mask (only i)) refl xs, none_wiped xs)
 
 -- what was heard, stored: with its profile, and without where that is the one that stands there
 module _ (s : Server) (now i p : ℕ) (h : Heard) where

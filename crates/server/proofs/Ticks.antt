@@ -4,6 +4,7 @@ use mathlib.Core.Path.{◌≡◌, refl, sym, ap, ◌∙◌}
 use mathlib.Core.Bool.{Bool, true, false, cond, ◌&&◌, ◌||◌}
 use mathlib.Core.List.{List, [], ◌∷◌, map}
 use Prim.Native.Nat.{ℕ, zero, suc, ◌≤◌}
+use native.Mathlib.Omega.{arith}
 use lib.ListN.{length, get_or, get_or-eq_default}
 use Rattle.refusals.specs.Refusal.{Verdict}
 use Rattle.masks.specs.Mask.{Set, mask}
@@ -56,15 +57,13 @@ module _ (σ : Status) (set : Set) (ms : List Member) (ends : (j : ℕ) → leng
   turned_status = ap (λ (m : Member). m.status) turned_member ∙ chosen (has set j) (get_or ms j nobody)
     where
       chosen : (b : Bool) (m : Member) → (cond b (restatus σ m) m).status ≡ cond b σ m.status
-      chosen true m = refl
-      chosen false m = refl
+      chosen b m = grind arith
 
   turned_last : (get_or (turned σ set ms) j nobody).last ≡ (get_or ms j nobody).last
   turned_last = ap (λ (m : Member). m.last) turned_member ∙ chosen (has set j) (get_or ms j nobody)
     where
       chosen : (b : Bool) (m : Member) → (cond b (restatus σ m) m).last ≡ m.last
-      chosen true m = refl
-      chosen false m = refl
+      chosen b m = grind arith
 
 -- the members and profiles once those who waited are freed
 abbrev freed_members : ℕ → Server → ℕ → List Member

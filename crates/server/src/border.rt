@@ -152,6 +152,7 @@ pub fn messages(answer: Answer, station: u8, number: u32) -> Run
 }
 
 // The same, written into a buffer one record after another.
+#[tactic(auto, using(crate::proofs::Runs::run_messages))]
 pub fn put_answer(buf: &mut [u8], at: usize, answer: Answer, station: u8, number: u32) -> Written
     ensures { (result ≡ run_answer 0 (sent_for station number answer) at buf.old) × (buf.new ≡ run_content (sent_for station number answer) at buf.old) }
 {

@@ -32,13 +32,12 @@ fn look(server: &Server, route: Route, event: Event) -> Looked
 }
 
 // Looks, and changes nothing.
+#[tactic(auto, unfolding(crate::specs::Settle::judge_on))]
 pub(crate) fn judge_in(server: &Server, reading: u64, event: Event) -> Judged
     ensures { result ≡ judge_on server.now reading event }
 {
     let last = server.reading;
-    let looked = match judge::routed(server.settings, last, reading, event) {
-        Ok(route) => Ok(look(server, route, event)),
-        Err(refusal) => Err(refusal),
-    };
+    let routed = judge::routed(server.settings, last, reading, event);
+    let looked = routed.map(|route| look(server, route, event));
     judge::judge(looked, last, reading, event)
 }

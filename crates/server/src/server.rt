@@ -69,6 +69,7 @@ fn settle(server: &mut Server, judged: Judged) -> Answer
 }
 
 // Any event at any reading, on a server that stays where it is.
+#[tactic(auto, using(crate::proofs::Judging::judged_settled))]
 pub fn step_in(server: &mut Server, reading: u64, event: Event) -> Answer
     ensures { (server.new ≡ (step (wait server.old.settings) server.old reading event).server) × (said result ≡ said (step (wait server.old.settings) server.old reading event).answer) }
 {
@@ -77,6 +78,7 @@ pub fn step_in(server: &mut Server, reading: u64, event: Event) -> Answer
 }
 
 impl Server {
+    #[tactic(auto, unfolding(crate::specs::State::new_server))]
     pub fn new(settings: Settings) -> Made
         ensures { result ≡ made settings }
     {

@@ -48,6 +48,7 @@ pub(crate) fn wipe_in(profiles: &mut Profiles, set: u64)
 }
 
 // The stations with a mark demanded for `answer` or more ticks on any profile.
+#[tactic(auto, using(crate::proofs::Sweeping::late_more))]
 pub(crate) fn late_in(profiles: &Profiles, reading: u64, answer: u64) -> u64
     ensures { result ≡ mask (late_set answer reading profiles.now) }
 {
