@@ -69,8 +69,8 @@ pub fn change_under<T: Copy, F: Fn(T) -> T>(items: &mut [T], set: u64, change: F
     }
 }
 
-// Whether one of those in a set passes a test.
-pub fn some_under<T: Copy, F: Fn(T) -> bool>(items: &[T], set: u64, test: F) -> bool
+// Whether one of those in a set passes a test. Those behind the last of the set are passed over.
+fn some_from_start<T: Copy, F: Fn(T) -> bool>(items: &[T], set: u64, test: F) -> bool
     requires { F.IsAlwaysCallable test }
     ensures { (f : T → Bool) → Tells (F.post test) f → result ≡ some_under f set items.now }
 {
@@ -85,4 +85,16 @@ pub fn some_under<T: Copy, F: Fn(T) -> bool>(items: &[T], set: u64, test: F) -> 
         rest /= 2;
     }
     false
+}
+
+// The same, with those before the first of the set passed over too: a set is often of one alone.
+pub fn some_under<T: Copy, F: Fn(T) -> bool>(items: &[T], set: u64, test: F) -> bool
+    requires { F.IsAlwaysCallable test }
+    ensures { (f : T → Bool) → Tells (F.post test) f → result ≡ some_under f set items.now }
+{
+    let start = first(set);
+    if items.len() < start {
+        return false;
+    }
+    some_from_start(&items[start..], set >> start, test)
 }

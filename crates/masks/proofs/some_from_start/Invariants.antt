@@ -2,7 +2,7 @@
 use Rattle.std.proofs.Common.{◌≡◌, Bool, drop}
 use Rattle.masks.specs.Mask.{some_under}
 use Rattle.masks.specs.Walk.{Tells}
-use Rattle.masks.proofs.some_under.Given as goal
+use Rattle.masks.proofs.some_from_start.Given as goal
 
 abbrev pub invariant-loop-item : goal.invariant-loop-item
 invariant-loop-item g l =
