@@ -12,7 +12,7 @@ use borrow.Author.Tests.{eqb-true, eqb-false}
 use lib.Bits.{bit_and, bit_or, and_step, or_step, and_zero_l, and_zero_r, or_zero_l, or_zero_r}
 use lib.Pow.{pow_mono}
 use lib.Count.{ones, ones_in, ones_step, count_trailing_zeros}
-use lib.ListN.{length, get_or, take, replicate}
+use lib.ListN.{length, get_or, take}
 use Rattle.masks.specs.Mask.{Set, bit_of, mask, count, any, both, either, set_of, those_at, those, change_in, change_under, some_under}
 
 pub bit_small : (b : Bool) → bit_of b < 2
@@ -160,19 +160,15 @@ module _ {A : Type 0} where
       by_test true false s d h rest = rw (same x d, rest h)
       by_test false t s d h rest = ap (λ (l : List A). x ∷ l) (rest h)
 
-  -- where nobody under the mask of all passes the test, nobody passes one that passes no more
-  pub none_of : (test g : A → Bool) → ((x : A) → test x ≡ false → g x ≡ false) → (n : ℕ) (xs : List A) → length xs ≤ n
-      → some_under test (mask (replicate n true)) xs ≡ false → mask (those g xs) ≡ 0
-  none_of test g out n [] l e = refl
-  none_of test g out zero (x ∷ xs) l e = absurd (omega arith)
-  none_of test g out (suc n) (x ∷ xs) l e =
-      let h = rw (odd_test true (replicate n true), half true (replicate n true)) at e in
-      by_test (test x) (some_under test (mask (replicate n true)) xs) refl h (none_of test g out n xs (omega arith))
+  -- where nobody passes the test, nobody passes one that passes no more
+  pub none_of : (test g : A → Bool) → ((x : A) → test x ≡ false → g x ≡ false) → (xs : List A) → any (those test xs) ≡ false → mask (those g xs) ≡ 0
+  none_of test g out [] e = refl
+  none_of test g out (x ∷ xs) e = by_test (test x) refl e (none_of test g out xs)
     where
-      by_test : (t s : Bool) → test x ≡ t → (t || s) ≡ false → (s ≡ false → mask (those g xs) ≡ 0)
+      by_test : (t : Bool) → test x ≡ t → (t || any (those test xs)) ≡ false → (any (those test xs) ≡ false → mask (those g xs) ≡ 0)
           → mask (those g xs) * 2 + bit_of (g x) ≡ 0
-      by_test true s d h rest = let z : ◌≡◌ {A = ℕ} 0 1 = cc in absurd (omega arith)
-      by_test false s d h rest = rw (out x d, rest h)
+      by_test true d h rest = let z : ◌≡◌ {A = ℕ} 0 1 = cc in absurd (omega arith)
+      by_test false d h rest = rw (out x d, rest h)
 
   -- a loop that goes up: what it has looked at, and one more
   pub mask_more : (f : ℕ → A → Bool) (d : A) (k i : ℕ) (xs : List A) → i < length xs

@@ -1,6 +1,6 @@
 // The mark of a station on a profile: whether its mode was demanded, and since when, or kept.
 ghost use Rattle.std.specs.Prelude.{◌≡◌, Bool};
-ghost use Rattle.masks.specs.Mask.{mask, change_under, some_under};
+ghost use Rattle.masks.specs.Mask.{mask, any, those, change_under, some_under};
 ghost use Rattle.masks.specs.Walk.{Tells};
 ghost use Rattle.members.specs.Mark.{as_word, as_mark, is_marked, is_kept, is_late, wipe_mark, drop_kept, demand, keep_mark, marks_with, remark};
 
@@ -136,6 +136,17 @@ pub fn some_in(marks: Marks, set: u64) -> bool
     ensures { result ≡ some_under is_marked set marks }
 {
     masks::some_under(&marks, set, |stored| stored.is_marked())
+}
+
+// Whether any station has a mark. No branch: most profiles have none, and a tick asks them all.
+pub fn any_in(marks: &Marks) -> bool
+    ensures { result ≡ any (those is_marked marks.now) }
+{
+    let mut some = false;
+    for stored in marks {
+        some |= stored.is_marked();
+    }
+    some
 }
 
 // The stations whose mark passes a test.

@@ -5,8 +5,7 @@ use mathlib.Core.Bool.{Bool, true, false, ◌||◌}
 use mathlib.Core.List.{List, [], ◌∷◌, map}
 use Prim.Native.Nat.{ℕ}
 use native.Mathlib.Omega.{arith}
-use lib.ListN.{length}
-use Rattle.masks.specs.Mask.{Set, mask, some_under}
+use Rattle.masks.specs.Mask.{Set, mask, any, those, some_under}
 use Rattle.masks.proofs.Laws.{under_in, none_under, none_of}
 use Rattle.modes.specs.declared.Mode.{Mode}
 use Rattle.members.specs.declared.mark.Marked.{Marked}
@@ -57,7 +56,6 @@ unfolding kept_under
 kept_under_lem s x = simp (under_in (remark keep_mark) s x.marks)
 
 -- where no mark is there, none is late
-pub none_late : (answer now : ℕ) (marks : List Marked) → length marks ≡ 16 → some_under is_marked 65535 marks ≡ false
-    → 0 ≡ mask (marks_with (is_late answer now) marks)
-none_late answer now marks l e =
-    sym (none_of is_marked (λ (m : Marked). is_late answer now (as_mark m)) (unmarked_test (is_late answer now) refl) 16 marks (omega arith) e)
+pub none_late : (answer now : ℕ) (marks : List Marked) → any (those is_marked marks) ≡ false → 0 ≡ mask (marks_with (is_late answer now) marks)
+none_late answer now marks e =
+    sym (none_of is_marked (λ (m : Marked). is_late answer now (as_mark m)) (unmarked_test (is_late answer now) refl) marks e)

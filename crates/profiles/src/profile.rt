@@ -8,7 +8,7 @@ ghost use Rattle.profiles.specs.Under.{wiped_under, kept_under, touched_under};
 use crate::row;
 use crate::row::Row;
 use members::mark;
-use members::mark::{EVERYONE, Mark, Marked, Marks};
+use members::mark::{Mark, Marked, Marks};
 use modes::Mode;
 use timing::settings::Settings;
 
@@ -58,11 +58,10 @@ impl Profile {
     }
 
     // The stations with a mark demanded for `answer` or more ticks.
-    pub fn late(self, now: u64, answer: u64) -> u64
-        ensures { result ≡ mask (marks_with (is_late answer now) self.marks) }
+    pub fn late(&self, now: u64, answer: u64) -> u64
+        ensures { result ≡ mask (marks_with (is_late answer now) self.now.marks) }
     {
-        // Most profiles have no marks.
-        if !mark::some_in(self.marks, EVERYONE) {
+        if !mark::any_in(&self.marks) {
             return 0;
         }
         mark::marks_in(self.marks, |mark| mark.is_late(now, answer))

@@ -188,9 +188,10 @@ impl Seen {
     fn awaited(self, number: u32) -> Result<Sent, Refusal>
         ensures { result ≡ awaited self.waiting self.last number }
     {
-        let sent = self.waiting.ok_or(Refusal::NotAwaited)?;
-        unless(number == self.last, Refusal::NotAwaited)?;
-        Ok(sent)
+        match self.waiting {
+            Some(sent) if number == self.last => Ok(sent),
+            _ => Err(Refusal::NotAwaited),
+        }
     }
 
     #[tactic(auto, unfolding(crate::specs::Rules::ack_forbids))]

@@ -1,11 +1,8 @@
--- `late` answers the stations with a late mark, and nothing where no mark is there.
-use mathlib.Core.Path.{sym, ◌∙◌}
-use borrow.Author.Rules.{rules}
-use Rattle.masks.proofs.Walk.{mapped_length}
+-- Where no station has a mark, none is late.
+use Rattle.std.proofs.Common.{rules, sym, ◌∙◌}
 use Rattle.profiles.proofs.Under.{none_late}
 use Rattle.profiles.proofs.profile.Profile.late.Goals as goal
 
-pub returns-then-not-some_in : goal.returns-then-not-some_in
-returns-then-not-some_in c =
-    let a = c.args in
-    none_late a.answer a.now a.self.marks (search (rules, mapped_length)) (sym c.some_in.ensures ∙ search rules)
+pub returns-then-not-any_in : goal.returns-then-not-any_in
+returns-then-not-any_in c =
+    none_late _ _ _ (sym c.any_in.ensures ∙ search rules)
