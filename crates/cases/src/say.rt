@@ -37,7 +37,7 @@ pub(crate) struct AtPhase(pub(crate) Option<Phase>);
 impl fmt::Display for AtPhase {
     fn fmt<W: fmt::Write>(&self, f: &mut fmt::Formatter<W>) -> fmt::Result {
         match self.0 {
-            Some(phase) => write!(f, "{}", phase as u8 + 1),
+            Some(phase) => write!(f, "{}", phase.number()),
             None => write!(f, "out"),
         }
     }

@@ -3,7 +3,7 @@
 
 ghost use Rattle.std.specs.Prelude.{◌≡◌, ◌≤◌, length, Bool, ℕ};
 ghost use Rattle.std.specs.Int.Count.{ones, count_trailing_zeros};
-ghost use Rattle.masks.specs.Mask.{bit_of, mask, those, those_at, change_under, some_under};
+ghost use Rattle.masks.specs.Mask.{mask, those, those_at, change_under, some_under};
 ghost use Rattle.masks.specs.Walk.{Tells, TellsAt};
 
 // How many are in the set: the language's own count of ones.
@@ -22,13 +22,6 @@ pub fn first(stations: u64) -> usize
     ensures { result ≡ count_trailing_zeros 15 stations }
 {
     u64::trailing_zeros(stations | LAST) as usize
-}
-
-// 1 where it is so, the bit that a mask takes in.
-pub fn bit(so: bool) -> u64
-    ensures { result ≡ bit_of so }
-{
-    if so { 1 } else { 0 }
 }
 
 // The set of those that pass a test, which is told each one's place too.

@@ -47,6 +47,7 @@ impl Mode {
         [true, true, true, true, true, true], // X covers all six
     ];
 
+    // Kept: by their numbers, so that the table reads as one; `join` makes modes of them.
     const JOINED: [[u8; Mode::COUNT]; Mode::COUNT] = [
         [1, 2, 3, 4, 5, 6],
         [2, 2, 3, 4, 5, 6],

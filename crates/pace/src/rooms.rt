@@ -84,10 +84,9 @@ fn answer_value(answer: Answer) -> u64 {
     }
 }
 
-// Phases count from 1.
 fn phase_value(answer: Result<Option<Phase>, Refusal>) -> u64 {
     match answer {
-        Ok(Some(phase)) => phase as u64 + 1,
+        Ok(Some(phase)) => u64::from(phase.number()),
         Ok(None) => 5,
         Err(refusal) => ground::refused(refusal),
     }

@@ -12,6 +12,7 @@ use members::mark::{Mark, Marked, Marks};
 use modes::Mode;
 use timing::settings::Settings;
 
+// Kept: two arrays side by side, since the row of sixteen modes is handed over and handed back whole, without the marks.
 #[derive(Clone, Copy, Debug, PartialEq, Eq)]
 pub struct Profile {
     pub(crate) row: Row,

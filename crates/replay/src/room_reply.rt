@@ -17,8 +17,7 @@ impl fmt::Display for RoomReply {
     fn fmt<W: fmt::Write>(&self, f: &mut fmt::Formatter<W>) -> fmt::Result {
         match *self {
             RoomReply::Event(reply, lost, count) => write!(f, "{reply} lost {lost} count {count}"),
-            // Phases count from 1.
-            RoomReply::Phase(Some(phase)) => write!(f, "phase {}", phase as u8 + 1),
+            RoomReply::Phase(Some(phase)) => write!(f, "phase {}", phase.number()),
             RoomReply::Phase(None) => write!(f, "phase out"),
             RoomReply::Use(true) => write!(f, "use yes"),
             RoomReply::Use(false) => write!(f, "use no"),

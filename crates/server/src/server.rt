@@ -25,6 +25,7 @@ pub struct Server {
 }
 
 // A new server, and whether its settings are in range.
+// Kept: a type of its own beside the room's, since one over both engines could not name its field for the engine.
 #[derive(Clone, Copy)]
 pub struct Made {
     pub server: Server,

@@ -32,6 +32,7 @@ pub struct Station {
 }
 
 // A new station, and what is said against its settings or its number.
+// Kept: a type of its own beside the server's, since one over both engines could not name its field for the engine.
 #[derive(Clone, Copy)]
 pub struct Made {
     pub station: Station,

@@ -5,7 +5,7 @@ ghost use Rattle.timing.specs.Lease.{said_left, left_of};
 use crate::reading::Reading;
 use refusals::Refusal;
 
-#[derive(Clone, Copy)]
+#[derive(Clone, Copy, Debug, PartialEq, Eq)]
 pub struct Lease(pub u64);
 
 impl Lease {

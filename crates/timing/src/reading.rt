@@ -4,7 +4,7 @@ ghost use Rattle.timing.specs.Reading.{said_widened, widened, reading_refusal, p
 
 use refusals::Refusal;
 
-#[derive(Clone, Copy)]
+#[derive(Clone, Copy, Debug, PartialEq, Eq)]
 pub struct Reading(pub u64);
 
 impl Reading {

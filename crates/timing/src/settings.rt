@@ -1,13 +1,13 @@
 // The settings that one server and its stations share, and what follows from them: the lease, the wait, the phases.
 ghost use Rattle.std.specs.Prelude.{◌≡◌};
 ghost use Rattle.timing.specs.Settings.{settings, within, lengths_good, rate_good, counts_good, settings_refusal, lease_answer, wait_answer};
-ghost use Rattle.timing.specs.Phase.{said_phase, phase_after};
+ghost use Rattle.timing.specs.Phase.{phase_number, said_phase, phase_after};
 
 use crate::lease::Lease;
 use refusals::Refusal;
 
 // Nine numbers, whatever they are; `refusal` says whether they are in range.
-#[derive(Clone, Copy)]
+#[derive(Clone, Copy, Debug, PartialEq, Eq)]
 pub struct Settings {
     phase1: u64,
     phase2: u64,
@@ -29,6 +29,20 @@ pub enum Phase {
     Second,
     Third,
     Fourth,
+}
+
+impl Phase {
+    // "Phases 1 to 4"
+    pub fn number(self) -> u8
+        ensures { result ≡ phase_number self }
+    {
+        match self {
+            Phase::First => 1,
+            Phase::Second => 2,
+            Phase::Third => 3,
+            Phase::Fourth => 4,
+        }
+    }
 }
 
 // A phase with the ticks until it ends.
