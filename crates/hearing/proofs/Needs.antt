@@ -1,20 +1,15 @@
 -- What a message does not need to be judged: a profile that no rule looks at, and who is live where nothing is asked.
 -- Assumes nothing.
-use mathlib.Core.Path.{◌≡◌, refl}
-use mathlib.Core.Bool.{Bool, true, false, ◌&&◌}
+use mathlib.Core.Path.{◌≡◌}
+use mathlib.Core.Bool.{false}
 use Prim.Native.Nat.{ℕ}
 use native.Mathlib.Omega.{arith}
-use lib.Dec.{ltb}
 use Rattle.masks.specs.Mask.{Set}
-use Rattle.members.specs.declared.member.Status.{Status}
-use Rattle.members.specs.declared.member.Status.TheVariants.{Unknown, Live, TimingOut}
 use Rattle.members.specs.declared.member.Member.{Member}
-use Rattle.members.specs.Member.{is_live}
 use Rattle.profiles.specs.declared.profile.Profile.{Profile}
 use Rattle.requests.specs.declared.Request.{Request}
-use Rattle.requests.specs.declared.Request.TheVariants.{Hello, KeepAlive, Ask, Release, Keep}
-use Rattle.hearing.specs.Hear.{Heard, heed, welcome, by_status, numbered, if_new, hear}
-use Rattle.hearing.specs.Needs.{names, looks, asks}
+use Rattle.hearing.specs.Hear.{Heard, heed, welcome, by_status, if_new, hear}
+use Rattle.hearing.specs.Needs.{looks, asks}
 
 -- what was heard, over another profile that it left as it was
 abbrev pub over : Profile → Heard → Heard

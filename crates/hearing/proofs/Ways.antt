@@ -1,7 +1,6 @@
 -- Each way that the code goes through a message, as the definition has it: h is what it finds.
 -- Assumes nothing.
-use mathlib.Core.Path.{◌≡◌, sym, ap, ◌∙◌}
-use mathlib.Core.Bool.{Bool}
+use mathlib.Core.Path.{◌≡◌}
 use Prim.Native.Nat.{ℕ, ◌<◌, ◌≤◌}
 use native.Mathlib.Omega.{arith}
 use Rattle.masks.specs.Mask.{Set}

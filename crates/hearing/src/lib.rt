@@ -60,7 +60,7 @@ impl Seen {
     }
 
     // What a live station's message does.
-    #[tactic(auto, using(profiles::proofs::Under::wiped_under_lem, profiles::proofs::Under::kept_under_lem, profiles::proofs::Told::ruled_told), unfolding(crate::specs::Hear::heed))]
+    #[tactic(auto, using(profiles::proofs::Under::wiped_under_lem, profiles::proofs::Under::kept_under_lem), unfolding(crate::specs::Hear::heed))]
     fn heed(mut self, request: Request) -> Heard
         ensures { result ≡ heed (set_of most_stations self.live) self.reading self.me request self.member self.profile }
     {
