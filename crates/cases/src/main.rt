@@ -47,9 +47,9 @@ fn waits(rt: &impl Print) -> io::Result<()> {
         row(
             rt,
             "wait of lease",
-            Told(settings.lease()),
+            settings.lease(),
             should,
-            Told(settings.wait()),
+            settings.wait(),
         )?;
     }
     Ok(())

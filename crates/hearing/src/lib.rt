@@ -32,6 +32,7 @@ pub struct Seen {
 pub struct Heard {
     pub member: Member,
     pub profile: Profile,
+    // Kept: as the definition has it; `gone` makes the set of it.
     pub greeted: bool,
     pub answer: Answer,
 }

@@ -46,14 +46,17 @@ impl Hold {
     }
 }
 
+// One for each profile.
+pub type Holds = [Hold; Settings::PROFILES];
+
 #[tactic(auto, unfolding(crate::specs::Hold::no_holds))]
-pub fn no_holds() -> [Hold; Settings::PROFILES]
+pub fn no_holds() -> Holds
     ensures { result ≡ no_holds }
 {
     [Hold::empty(); Settings::PROFILES]
 }
 
-pub fn hold_at(holds: [Hold; Settings::PROFILES], profile: u8) -> Hold
+pub fn hold_at(holds: Holds, profile: u8) -> Hold
     ensures { result ≡ hold_in holds profile }
 {
     holds
@@ -63,7 +66,7 @@ pub fn hold_at(holds: [Hold; Settings::PROFILES], profile: u8) -> Hold
 }
 
 // The profiles with something unwritten.
-pub fn unwritten_in(holds: [Hold; Settings::PROFILES]) -> u64
+pub fn unwritten_in(holds: Holds) -> u64
     ensures { result ≡ mask (unwritten_set holds) }
 {
     masks::those(&holds, |hold: Hold| hold.unwritten)

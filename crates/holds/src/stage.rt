@@ -12,6 +12,7 @@ pub enum Standing {
     Closing,
 }
 
+// Kept: three flags, each of which a rule asks for by itself, as `stage_at` has them.
 #[derive(Clone, Copy, Debug, PartialEq, Eq)]
 pub struct Stage {
     pub out: bool,

@@ -29,6 +29,7 @@ pub enum Needs {
 }
 
 // What was looked at: the station, the profile if it was needed, and the set of the live stations, nobody where it was not.
+// Kept: the set of nobody and no Option, since only an ask reads it, and for an ask it is always looked at.
 #[derive(Clone, Copy)]
 pub struct Looked {
     pub route: Route,

@@ -13,9 +13,7 @@ fn check_event(settings: Settings, event: Event) -> Result<(), Refusal>
 {
     match event {
         Event::Message(station, _, request) => {
-            if station as u64 >= settings.stations() {
-                return Err(Refusal::Station);
-            }
+            refusals::unless(u64::from(station) < settings.stations(), Refusal::Station)?;
             requests::check_request(settings.profiles(), request)
         }
         Event::Tick => Ok(()),

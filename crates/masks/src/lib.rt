@@ -17,7 +17,7 @@ pub fn count(mask: u64) -> u32
 const LAST: u64 = 32_768;
 
 // The place at which a set of stations begins. Where none before the last is in it, that is the last one's place: so it is
-// always a station's, and who starts there needs no branch for a set of nobody.
+// always a station's, also for a set of nobody.
 pub fn first(stations: u64) -> usize
     ensures { result ≡ count_trailing_zeros 15 stations }
 {

@@ -100,7 +100,8 @@ fn use_value(answer: Result<bool, Refusal>) -> u64 {
     }
 }
 
-// Kept: as a closure of `Sum::of`, which clears the place of a step's result before each event, an event takes a sixth longer.
+// Kept: a loop of its own. Through `Sum::of` the place for a step's result is cleared before each event, and a refusal takes 44 ns and no
+// longer 37.
 pub(crate) fn turns(turn: Turn, count: u64) -> Sum {
     let mut room = leased();
     let mut sum = Sum::new();

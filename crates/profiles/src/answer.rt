@@ -11,7 +11,7 @@ pub enum Answer {
     Wait(u8, Mode, u64, u32),
     // Profile.
     InUse(u8),
-    // Kept: a number, as the detail is the byte of the record, and the theorems on what a station is told name `Nack 0` and `Nack 1`.
+    // Kept: the detail is a number, the record's byte; the theorems `nack_0` and `nack_1` of `server` name the two.
     Nack(u8),
     // The stations freed and those that start timing out.
     Ticked(u64, u64),

@@ -12,7 +12,7 @@ use members::mark::{Mark, Marked, Marks};
 use modes::Mode;
 use timing::settings::Settings;
 
-// Kept: two arrays side by side, since the row of sixteen modes is handed over and handed back whole, without the marks.
+// Kept: two arrays side by side: a mode and a mark in one would take sixteen bytes in place of nine, and a server has 1,024 of them.
 #[derive(Clone, Copy, Debug, PartialEq, Eq)]
 pub struct Profile {
     pub(crate) row: Row,

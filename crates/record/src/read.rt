@@ -13,7 +13,7 @@ fn marked(first: u8, second: u8) -> bool
 }
 
 // The six numbers of eleven bytes.
-// Kept: no From, which would be public, and give a message of bytes that nothing has judged.
+// Kept: no From, since it has one caller, and bytes that nothing has judged are no message yet.
 fn message_of(b: &[u8; Message::LENGTH]) -> Message
     ensures { result ≡ message_of b.now }
 {

@@ -1,7 +1,7 @@
 // Why the engines, the reader and the writer refuse what they are given: the paper's table of refusals.
 #![tactic(auto)]
 
-ghost use Rattle.std.specs.Prelude.{◌≡◌};
+ghost use Rattle.std.specs.Prelude.{◌≡◌, cond, Ok, Err};
 ghost use Rattle.refusals.specs.Refusal.{number};
 
 use std::error::Error;
@@ -62,6 +62,13 @@ impl Refusal {
             Refusal::NoRoom => 19,
         }
     }
+}
+
+// Refused, unless it holds.
+pub fn unless(holds: bool, refusal: Refusal) -> Result<(), Refusal>
+    ensures { result ≡ cond holds (Ok tt) (Err refusal) }
+{
+    if holds { Ok(()) } else { Err(refusal) }
 }
 
 impl fmt::Display for Refusal {

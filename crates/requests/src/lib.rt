@@ -20,7 +20,7 @@ pub enum Request {
 }
 
 // The profile that a request names, 0 where it names none.
-// Kept: a number and not an Option, since what stands at that profile is looked at, and where none is named it does not matter.
+// Kept: a number and no Option: where none is named, profile 0 is looked at and left as it is, so that no caller has to ask.
 pub fn profile_of(request: Request) -> u8
     ensures { result ≡ profile_of request }
 {
@@ -34,11 +34,7 @@ pub fn profile_of(request: Request) -> u8
 pub fn check_profile(profiles: u64, profile: u8) -> Result<(), Refusal>
     ensures { result ≡ profile_refusal profiles profile }
 {
-    if profile as u64 >= profiles {
-        Err(Refusal::Profile)
-    } else {
-        Ok(())
-    }
+    refusals::unless(u64::from(profile) < profiles, Refusal::Profile)
 }
 
 // Whether a profile and a mode are.
@@ -46,11 +42,7 @@ pub fn check_pair(profiles: u64, profile: u8, mode: Mode) -> Result<(), Refusal>
     ensures { result ≡ pair_refusal profiles profile (is_mode mode.0) }
 {
     check_profile(profiles, profile)?;
-    if mode.is_mode() {
-        Ok(())
-    } else {
-        Err(Refusal::Mode)
-    }
+    refusals::unless(mode.is_mode(), Refusal::Mode)
 }
 
 // Whether what a request names is.
@@ -103,6 +95,7 @@ pub fn message_of(station: u8, number: u32, request: Request) -> Message
 }
 
 // What a message asks, or none where it is of another kind.
+// Kept: no TryFrom, since there is nothing to say of what is no request but that it is none.
 #[tactic(auto, unfolding(crate::specs::Request::request_of))]
 pub fn request_of(m: Message) -> Option<Request>
     ensures { said_asked result ≡ said_asked (request_of m) }

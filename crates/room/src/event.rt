@@ -28,8 +28,8 @@ pub enum Event {
     WriteOut(u8),
     Restart,
     // From the server: the station named, the number, what it says.
-    // Kept: what a NACK says is a plain number, since a room takes every one, also what is no NACK of the paper's.
     Ack(u8, u32, Ack),
+    // Kept: the detail is a plain number, since `Station::step` takes every one, also one that is none of the paper's.
     Nack(u8, u32, u8),
     // The station named, the profile and the mode that another wants.
     Demand(u8, u8, Mode),

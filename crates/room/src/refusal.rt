@@ -24,11 +24,7 @@ fn check_demand(profiles: u64, profile: u8, mode: Mode) -> Result<(), Refusal>
     ensures { result ≡ pair_refusal profiles profile (is_wanted mode.0) }
 {
     requests::check_pair(profiles, profile, mode)?;
-    if mode == Mode::M {
-        Err(Refusal::Mode)
-    } else {
-        Ok(())
-    }
+    refusals::unless(mode != Mode::M, Refusal::Mode)
 }
 
 fn check_ack(profiles: u64, ack: Ack) -> Result<(), Refusal>
@@ -74,11 +70,7 @@ pub fn check_own(settings: Settings, number: u8) -> Result<(), Refusal>
     ensures { result ≡ own_refusal settings number }
 {
     settings.check()?;
-    if number as u64 >= settings.stations() {
-        Err(Refusal::Station)
-    } else {
-        Ok(())
-    }
+    refusals::unless(u64::from(number) < settings.stations(), Refusal::Station)
 }
 
 impl Asking {

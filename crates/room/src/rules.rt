@@ -7,7 +7,7 @@ use crate::event::{Ack, Event, Request, Sent};
 use holds::hold::Hold;
 use holds::stage::Stage;
 use modes::Mode;
-use refusals::Refusal;
+use refusals::{Refusal, unless};
 use timing::reading::Reading;
 
 // No message has a number above this one.
@@ -24,13 +24,6 @@ pub struct Seen {
     pub now: u64,
     // The last number.
     pub last: u32,
-}
-
-// Refused, unless it holds.
-fn unless(holds: bool, refusal: Refusal) -> Result<(), Refusal>
-    ensures { result ≡ cond holds (Ok tt) (Err refusal) }
-{
-    if holds { Ok(()) } else { Err(refusal) }
 }
 
 // Whether an ACK answers an ask of `asked` on `profile` where `held` is held.
@@ -55,6 +48,7 @@ fn fits(request: Request, held: Mode, ack: Ack) -> bool
 }
 
 // The profile that an ACK names, 0 where it names none.
+// Kept: a number, as `profile_for` below.
 fn ack_profile(ack: Ack) -> u8
     ensures { result ≡ ack_profile ack }
 {
@@ -65,7 +59,7 @@ fn ack_profile(ack: Ack) -> u8
 }
 
 // The profile that an event names, 0 where it names none.
-// Kept: a number, as `profile_of` of `requests` answers it: what is held there is looked at, named or not.
+// Kept: a number and no Option, as `profile_of` of `requests`: what is held of that profile is looked at, named or not.
 pub fn profile_for(event: Event) -> u8
     ensures { result ≡ profile_for event }
 {

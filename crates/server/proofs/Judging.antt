@@ -6,16 +6,14 @@ use mathlib.Core.List.{List, [], map}
 use Prim.Native.Nat.{ℕ}
 use Rattle.std.proofs.Common.{Option, Some, None, Ok, Err}
 use Rattle.std.specs.Option.{unwrap_or}
-use Rattle.std.specs.Result.{result_unwrap_or}
 use native.Mathlib.Omega.{arith}
 use lib.ListN.{length, set}
 use lib.Seq.{set-get_or}
 use Rattle.refusals.specs.Refusal.{Verdict}
-use Rattle.refusals.specs.declared.Refusal.TheVariants as refused
 use Rattle.masks.specs.Mask.{Set, mask, set_of}
 use Rattle.masks.proofs.Laws.{set_mask, length_those}
 use Rattle.timing.specs.Limits.{most_stations}
-use Rattle.timing.specs.Settings.{wait}
+use Rattle.timing.specs.Settings.{wait, wait_answer}
 use Rattle.profiles.specs.Sets.{is_live, live_set, only}
 use Rattle.profiles.specs.Under.{wiped_under}
 use Rattle.profiles.proofs.Under.{wiped_all, none_wiped}
@@ -31,7 +29,7 @@ use Rattle.server.specs.State.{Member, Profile, Server, no_profile, empty_profil
 use Rattle.server.specs.Event.{Request, Event, Message, Tick}
 use Rattle.server.specs.Tick.{free, started_set, start}
 use Rattle.server.specs.Step.{Served, wiped_if, after_heard, at_reading, message, tick, if_good, step}
-use Rattle.server.specs.Settle.{profile_if, live_if, judge_at, judge_on, stored, settled, wait_in}
+use Rattle.server.specs.Settle.{profile_if, live_if, judge_at, judge_on, stored, settled}
 
 -- all profiles wiped of who is gone
 gone_wiped : (b : Bool) (i : ℕ) (xs : List Profile) → map (wiped_under (mask (cond b (only i) []))) xs ≡ wiped_if b i xs
@@ -94,14 +92,14 @@ module _ (s : Server) (now i k : ℕ) (q : Request) (all : length s.members ≡ 
 
 module _ (s : Server) (now : ℕ) (all : length s.members ≡ 16) where
   by_verdict : (v : Verdict) (e : Event) → refusal s.settings s.reading now e ≡ v
-      → settled (wait_in s.settings) s (judge_at s now e (route_by v e)) ≡ if_good v (wait s.settings) s now e
+      → settled (wait_answer s.settings) s (judge_at s now e (route_by v e)) ≡ if_good v (wait s.settings) s now e
   unfolding settled judged_for needed_for heard_for tick free start started_set left_on
   by_verdict (Ok _) (Message i k q) h = heard_settled s now i k q all (looks k q (member_at s i)) (asks q) refl refl
   by_verdict (Ok _) Tick h =
-      ap (λ (b : Bool). tick (result_unwrap_or (cond b (Ok (wait s.settings)) (Err refused.Settings)) 0) s now) (settings_good s.settings s.reading now Tick h)
+      ap (λ (b : Bool). tick (cond b (wait s.settings) 0) s now) (settings_good s.settings s.reading now Tick h)
   by_verdict (Err r) e h = refl
 
 pub judged_settled : (s : Server) (now : ℕ) (e : Event) → length s.members ≡ 16
-    → settled (wait_in s.settings) s (judge_on s now e) ≡ step (wait s.settings) s now e
+    → settled (wait_answer s.settings) s (judge_on s now e) ≡ step (wait s.settings) s now e
 unfolding judge_on route_of step
 judged_settled s now e all = by_verdict s now all (refusal s.settings s.reading now e) e refl

@@ -1,11 +1,8 @@
 -- An event judged on the server, looking only at what `Needs` names, and what is stored then.
 -- No rule stands here: `proofs/Judging.antt` leads all of it back to the step.
 use Rattle.std.specs.Prelude.{List, map, ℕ, set, Option, Some, None, Result, Ok, Err}
-use Rattle.std.specs.Result.{result_unwrap_or}
 use Rattle.refusals.specs.declared.Refusal.{Refusal}
 use Rattle.masks.specs.Mask.{mask}
-use Rattle.timing.specs.declared.settings.Settings.{Settings}
-use Rattle.timing.specs.Settings.{wait_answer}
 use Rattle.profiles.specs.Sets.{live_set}
 use Rattle.profiles.specs.Under.{wiped_under}
 use Rattle.judging.specs.declared.judge.Route.{Route}
@@ -69,7 +66,3 @@ settled_as (outcome.Leaves a) wait s = record { server = stored s a; answer = a.
 
 unfoldable pub settled : ℕ → Server → Judged → Served
 settled wait s j = settled_as j.outcome wait (at_reading s j.reading)
-
--- the wait that the code puts in: 0 where a setting is out of range, and then no tick is accepted
-abbrev pub wait_in : Settings → ℕ
-wait_in z = result_unwrap_or (wait_answer z) 0

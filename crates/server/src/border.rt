@@ -11,6 +11,7 @@ use record::Message;
 use writer::{Run, Written};
 
 // The event that a message is, or none where it is of the other side's kinds: then it is the caller's to drop.
+// Kept: a function and no TryFrom: a message and an event are both types of other crates, so the impl cannot stand here.
 #[tactic(auto, using(requests::proofs::Back::asked_told), unfolding(crate::specs::Border::event_of))]
 pub fn event_of(m: Message) -> Option<Event>
     ensures { said_meant result ≡ said_meant (event_of m) }
@@ -67,6 +68,7 @@ fn with_demands(first: Message, stations: u64, profile: u8, wanted: u8) -> Run
     ensures { result ≡ run_of (first ∷ demands_from most_stations 0 stations profile wanted) }
 {
     let mut run = one(first);
+    // Kept: bit by bit, since the walks of `masks` go over a list, and here there is only the set.
     let mut rest = stations;
     for station in 0..Message::STATIONS {
         if rest % 2 == 1 {

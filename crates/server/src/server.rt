@@ -1,8 +1,8 @@
 // The server: its settings, its last reading, its stations and its profiles.
 ghost use Rattle.std.specs.Prelude.{◌≡◌};
-ghost use Rattle.timing.specs.Settings.{wait};
+ghost use Rattle.timing.specs.Settings.{wait, wait_answer};
 ghost use Rattle.profiles.specs.Said.{said};
-ghost use Rattle.server.specs.Settle.{wait_in, stored, settled};
+ghost use Rattle.server.specs.Settle.{stored, settled};
 ghost use Rattle.server.specs.Step.{made, step};
 
 use crate::event::{Answer, Event};
@@ -25,7 +25,7 @@ pub struct Server {
 }
 
 // A new server, and whether its settings are in range.
-// Kept: a type of its own beside the room's, since one over both engines could not name its field for the engine.
+// Kept: a type of its own beside the room's, since callers read `made.server`.
 #[derive(Clone, Copy)]
 pub struct Made {
     pub server: Server,
@@ -59,7 +59,7 @@ fn store(server: &mut Server, after: After) -> Answer
 // Stores what an event does. All that it needs to know stands in what was judged, but for a tick.
 #[tactic(auto, unfolding(crate::specs::Settle::settled))]
 fn settle(server: &mut Server, judged: Judged) -> Answer
-    ensures { (server.new ≡ (settled (wait_in server.old.settings) server.old judged).server) × (result ≡ (settled (wait_in server.old.settings) server.old judged).answer) }
+    ensures { (server.new ≡ (settled (wait_answer server.old.settings) server.old judged).server) × (result ≡ (settled (wait_answer server.old.settings) server.old judged).answer) }
 {
     server.reading = judged.reading;
     match judged.outcome {

@@ -11,7 +11,7 @@ use Rattle.refusals.proofs.Choice.{past_if, past_unless, or_ok}
 use Rattle.modes.specs.Modes.{covers}
 use Rattle.timing.specs.declared.settings.Phase.{Phase}
 use Rattle.timing.specs.declared.settings.Settings.{Settings}
-use Rattle.timing.specs.Settings.{lease, in_range, lease_answer}
+use Rattle.timing.specs.Settings.{lease, in_range, lease_checked}
 use Rattle.station.specs.Event.{Request, Hello, KeepAlive, Ask, Release, Keep, Sent, Event, Send, Begin, Edit, End, WriteOut, Restart, Acked, Nacked, Demand, Hold, Standing, Stage}
 use Rattle.holds.specs.Stage.{phase_said, stage_at}
 use Rattle.room.specs.Refusal.{own_refusal, refusal, use_refusal}
@@ -99,11 +99,11 @@ unfolding use_refusal
 good_asked z own last now p h = own_good z own (or_ok _ _ h).0
 
 -- so the code finds the lease, or the refusal of 1 to 6
-pub lease_is : (z : Settings) → in_range z ≡ true → lease_answer z ≡ Ok (lease z)
+pub lease_is : (z : Settings) → in_range z ≡ true → lease_checked z ≡ Ok (lease z)
 lease_is z e = rw e refl
 
 pub lease_good : (z : Settings) (own last now : ℕ) (e : Event) → refusal z own last now e ≡ Ok tt
-    → lease_answer z ≡ lease_if (refusal z own last now e) z
+    → lease_checked z ≡ lease_if (refusal z own last now e) z
 lease_good z own last now e h =
     lease_is z (good_settings z own last now e h) ∙ ap (λ (v : Verdict). lease_if v z) (sym h)
 

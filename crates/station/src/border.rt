@@ -21,7 +21,7 @@ fn ack_of(m: Message) -> Option<Event>
 }
 
 // The event that a message is, or none where it is of the other side's kinds, which is the caller's to drop.
-// Kept: a function and no TryFrom, since a message and an event are both types of other crates.
+// Kept: a function and no TryFrom: a message and an event are both types of other crates, so the impl cannot stand here.
 #[tactic(auto, unfolding(crate::specs::Border::event_of))]
 pub fn event_of(m: Message) -> Option<Event>
     ensures { said_meant result ≡ said_meant (event_of m) }

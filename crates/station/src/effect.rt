@@ -24,12 +24,12 @@ fn nacked(standing: Standing) -> Standing
 {
     match standing {
         Standing::Out => Standing::Out,
-        Standing::Open => Standing::Closing,
-        Standing::Closing => Standing::Closing,
+        Standing::Open | Standing::Closing => Standing::Closing,
     }
 }
 
-// When the waiting message was sent.
+// When the waiting message was sent; 0 where none waits.
+// Kept: a number, since an ACK, for which alone it counts, is not allowed where none waits.
 pub(crate) fn sent_at(waiting: Option<Sent>) -> u64
     ensures { result ≡ sent_at waiting }
 {

@@ -9,7 +9,7 @@ ghost use Rattle.station.specs.Said.{told, said_phase, said_use};
 
 use crate::event::{Answer, Event, Refusal, Sent};
 use crate::parts::Parts;
-use holds::hold::Hold;
+use holds::hold::{Hold, Holds};
 use holds::stage::Standing;
 use holds::{hold, stage};
 use room::refusal::Asking;
@@ -28,11 +28,11 @@ pub struct Station {
     last: u32,
     reading: u64,
     waiting: Option<Sent>,
-    holds: [Hold; Settings::PROFILES],
+    holds: Holds,
 }
 
 // A new station, and what is said against its settings or its number.
-// Kept: a type of its own beside the server's, since one over both engines could not name its field for the engine.
+// Kept: a type of its own beside the server's, since callers read `made.station`.
 #[derive(Clone, Copy)]
 pub struct Made {
     pub station: Station,
@@ -56,7 +56,7 @@ fn clears(over: bool, event: Event) -> bool
 }
 
 // The profiles that an event loses; `over` is whether the lease ends at it.
-fn lost_at(over: bool, event: Event, holds: [Hold; Settings::PROFILES]) -> u64
+fn lost_at(over: bool, event: Event, holds: Holds) -> u64
     ensures { result ≡ mask (lost_if (over && not (is_restart event)) holds) }
 {
     if over && !matches!(event, Event::Restart) {
@@ -103,7 +103,7 @@ impl Station {
         ensures { result ≡ lease_if (refusal_of self.now reading event) self.now.settings }
     {
         self.asking(reading).check(event)?;
-        self.settings.lease()
+        self.settings.try_lease()
     }
 
     // Whether the lease has run its length.
@@ -126,7 +126,7 @@ impl Station {
         }
     }
 
-    fn joined(&self, reading: u64, parts: Parts, holds: [Hold; Settings::PROFILES]) -> Station
+    fn joined(&self, reading: u64, parts: Parts, holds: Holds) -> Station
         ensures { result ≡ joined self.now.settings self.now.number reading parts holds }
     {
         Station {
@@ -191,7 +191,7 @@ impl Station {
         ensures { said_use result ≡ said_use (may_use self reading profile) }
     {
         self.asking(reading).check_use(profile)?;
-        let lease = self.settings.lease()?;
+        let lease = self.settings.try_lease()?;
         let held = hold::hold_at(self.holds, profile).mode;
         Ok(held.is_mode() && !Reading::passed(self.start, lease, reading))
     }

@@ -3,7 +3,7 @@
 use Rattle.std.proofs.Common.{◌≡◌, ℕ, ◌<◌, ◌≤◌, Bool, true, false, cond, ◌&&◌, leb, sym, refl, ap, arith, le-leb, leb-true, Ok, Err}
 use mathlib.Core.Bool.{and-eq-true_iff}
 use Rattle.timing.specs.Limits.{lease_shortest, lease_longest, rate_largest, answer_longest, most_stations, most_profiles}
-use Rattle.timing.specs.Settings.{Settings, lease, within, lengths_good, rate_good, counts_good, in_range, settings_refusal, lease_answer}
+use Rattle.timing.specs.Settings.{Settings, lease, within, lengths_good, rate_good, counts_good, in_range, settings_refusal, lease_checked}
 use Rattle.refusals.proofs.Choice.{past_unless}
 use Rattle.refusals.specs.declared.Refusal.TheVariants as refusal
 
@@ -114,7 +114,7 @@ module _ (z : Settings) where
   pub good : settings_refusal z ≡ Ok tt → in_range z ≡ true
   good e = (past_unless (in_range z) (Ok tt) refusal.Settings e).0
 
-  pub lease_known : (l : ℕ) → lease_answer z ≡ Ok l → (in_range z ≡ true) × (l ≡ lease z)
+  pub lease_known : (l : ℕ) → lease_checked z ≡ Ok l → (in_range z ≡ true) × (l ≡ lease z)
   lease_known l e = by_test (in_range z) refl
     where
       by_test : (t : Bool) → in_range z ≡ t → (in_range z ≡ true) × (l ≡ lease z)

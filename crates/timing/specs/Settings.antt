@@ -61,12 +61,19 @@ rounded_up a d = (a + (d - 1)) / d
 unfoldable pub wait : Settings → ℕ
 wait z = rounded_up (lease z * (z.d + z.n)) z.d + 1
 
--- what the code answers of the lease and the wait: refusal 1 where the settings are out of range
-abbrev pub lease_answer : Settings → Result ℕ Refusal
-lease_answer z = cond (in_range z) (Ok (lease z)) (Err refusal.Settings)
+-- what the code answers of the lease and the wait: 0 where the settings are out of range
+abbrev pub lease_answer : Settings → ℕ
+lease_answer z = cond (in_range z) (lease z) 0
 
-abbrev pub wait_answer : Settings → Result ℕ Refusal
-wait_answer z = cond (in_range z) (Ok (wait z)) (Err refusal.Settings)
+abbrev pub wait_answer : Settings → ℕ
+wait_answer z = cond (in_range z) (wait z) 0
+
+-- the same with refusal 1 there
+abbrev pub lease_checked : Settings → Result ℕ Refusal
+lease_checked z = cond (in_range z) (Ok (lease z)) (Err refusal.Settings)
+
+abbrev pub wait_checked : Settings → Result ℕ Refusal
+wait_checked z = cond (in_range z) (Ok (wait z)) (Err refusal.Settings)
 
 -- "with reading differences a on one clock and b on the other, (b-1)·D < (a+1)·(D+N)", one way round.
 -- Where b is 0 the paper's left side is below 0, and here it is 0: the rule holds of both, since D is at least 1.

@@ -5,6 +5,7 @@ ghost use Rattle.timing.specs.Lease.{said_left, left_of};
 use crate::reading::Reading;
 use refusals::Refusal;
 
+// The kind that the limits of a lease belong to, and the ticks left of one. A lease itself is a plain number of ticks.
 #[derive(Clone, Copy, Debug, PartialEq, Eq)]
 pub struct Lease(pub u64);
 

@@ -4,6 +4,7 @@ ghost use Rattle.timing.specs.Reading.{said_widened, widened, reading_refusal, p
 
 use refusals::Refusal;
 
+// The kind that the limit and the rules of a reading belong to. A reading itself is a plain number of ticks.
 #[derive(Clone, Copy, Debug, PartialEq, Eq)]
 pub struct Reading(pub u64);
 
@@ -32,14 +33,8 @@ impl Reading {
     pub fn check(last: u64, reading: u64) -> Result<(), Refusal>
         ensures { result ≡ reading_refusal last reading }
     {
-        if Reading::LIMIT < reading {
-            return Err(Refusal::AboveLimit);
-        }
-        if reading < last {
-            Err(Refusal::BelowLast)
-        } else {
-            Ok(())
-        }
+        refusals::unless(reading <= Reading::LIMIT, Refusal::AboveLimit)?;
+        refusals::unless(last <= reading, Refusal::BelowLast)
     }
 
     // Whether a time that began at `since` has run `length` ticks or more.

@@ -1,12 +1,12 @@
 // The settings that one server and its stations share, and what follows from them: the lease, the wait, the phases.
 ghost use Rattle.std.specs.Prelude.{◌≡◌};
-ghost use Rattle.timing.specs.Settings.{settings, within, lengths_good, rate_good, counts_good, settings_refusal, lease_answer, wait_answer};
+ghost use Rattle.timing.specs.Settings.{settings, within, lengths_good, rate_good, counts_good, settings_refusal, lease_answer, lease_checked, wait_answer, wait_checked};
 ghost use Rattle.timing.specs.Phase.{phase_number, said_phase, phase_after};
 
 use crate::lease::Lease;
 use refusals::Refusal;
 
-// Nine numbers, whatever they are; `refusal` says whether they are in range.
+// Nine numbers, whatever they are; `check` says whether they are in range.
 #[derive(Clone, Copy, Debug, PartialEq, Eq)]
 pub struct Settings {
     phase1: u64,
@@ -125,29 +125,45 @@ impl Settings {
     pub fn check(self) -> Result<(), Refusal>
         ensures { result ≡ settings_refusal self }
     {
-        if self.lengths_good() && self.rate_good() && self.counts_good() {
-            Ok(())
-        } else {
-            Err(Refusal::Settings)
-        }
+        refusals::unless(
+            self.lengths_good() && self.rate_good() && self.counts_good(),
+            Refusal::Settings,
+        )
     }
 
     // The lease L.
-    pub fn lease(self) -> Result<u64, Refusal>
-        ensures { result ≡ lease_answer self }
+    pub fn try_lease(self) -> Result<u64, Refusal>
+        ensures { result ≡ lease_checked self }
     {
         self.check()?;
         Ok(self.phase1 + self.phase2 + self.phase3 + self.phase4)
     }
 
     // The wait W.
-    pub fn wait(self) -> Result<u64, Refusal>
-        ensures { result ≡ wait_answer self }
+    pub fn try_wait(self) -> Result<u64, Refusal>
+        ensures { result ≡ wait_checked self }
     {
-        let lease = self.lease()?;
+        let lease = self.try_lease()?;
         Ok((lease * (self.d + self.n) + (self.d - 1)) / self.d + 1)
     }
 
+    // The lease, or 0 where a setting is out of range.
+    // Kept: a number, beside `try_lease`, since this one cannot fail.
+    pub fn lease(self) -> u64
+        ensures { result ≡ lease_answer self }
+    {
+        self.try_lease().unwrap_or(0)
+    }
+
+    // The wait, or 0 where a setting is out of range.
+    // Kept: a number, beside `try_wait`, since this one cannot fail.
+    pub fn wait(self) -> u64
+        ensures { result ≡ wait_answer self }
+    {
+        self.try_wait().unwrap_or(0)
+    }
+
+    // Kept: step by step, since the definition names the edge of each phase, and a loop over the four would want another beside it.
     // The phase some ticks after a lease start, or none where the lease is over. It takes off one length after another, so no
     // sum can overflow.
     pub fn phase(self, ticks: u64) -> Option<Running>

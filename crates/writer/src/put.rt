@@ -5,7 +5,7 @@ ghost use Rattle.writer.specs.Put.{bytes_of, put_answer, put_content, said_put};
 use record::{Message, allowed};
 use refusals::Refusal;
 
-// Kept: no From, since an impl of it must name a type of this crate.
+// Kept: no From: a message and an array are no types of this crate, and `record`, whose message it is, does not write.
 fn bytes_of(m: Message) -> [u8; Message::LENGTH]
     ensures { result ≡ bytes_of m }
 {

@@ -8,4 +8,4 @@ use Rattle.station.proofs.station.Station.lease_for.Goals as goal
 pub returns : goal.returns
 returns c =
     let asked = ap (λ (a : Asking). refusal a.settings a.number a.last a.reading c.args.event) c.asking.ensures in
-    c.lease.ensures ∙ lease_good _ _ _ _ _ (sym asked ∙ sym c.check.ensures ∙ c.in_ok-check.was)
+    c.try_lease.ensures ∙ lease_good _ _ _ _ _ (sym asked ∙ sym c.check.ensures ∙ c.in_ok-check.was)

@@ -1,7 +1,7 @@
--- `Settings::lease` answers the lease, or refusal 1 where a setting is out of range.
+-- `Settings::try_lease` answers the lease, or refusal 1 where a setting is out of range.
 use Rattle.std.proofs.Common.{arith, ◌∙◌, sym}
 use Rattle.timing.proofs.Ranges.{ranges, good}
-use Rattle.timing.proofs.settings.Settings.lease.Goals as goal
+use Rattle.timing.proofs.settings.Settings.try_lease.Goals as goal
 
 pub overflow_add-result : goal.overflow_add-result
 overflow_add-result c =
