@@ -20,6 +20,7 @@ fn check_event(settings: Settings, event: Event) -> Result<(), Refusal>
     }
 }
 
+// Kept: four values, as `routed` has them, which alone calls this and passes them on.
 #[tactic(auto, unfolding(crate::specs::Refusal::refusal))]
 pub(crate) fn check(
     settings: Settings,

@@ -1,4 +1,5 @@
 // Sets of stations or profiles as masks of 64 bits, the first as the lowest bit.
+// Kept: a mask is a plain number and no type of its own, since the answers of both engines carry it so.
 #![tactic(auto)]
 
 ghost use Rattle.std.specs.Prelude.{◌≡◌, ◌≤◌, length, Bool, ℕ};

@@ -12,6 +12,8 @@ use members::mark;
 use members::mark::EVERYONE;
 use modes::Mode;
 
+// What the rule leaves and answers.
+// Kept: a type of its own, as `Served` of `server` and `Outcome` of `station`, since its field says what was left.
 #[derive(Clone, Copy, Debug, PartialEq, Eq)]
 pub struct Ruled {
     pub profile: Profile,
@@ -19,6 +21,7 @@ pub struct Ruled {
 }
 
 // `number` is the profile's; `live` is the set of the live stations.
+// Kept: six values, since `Seen` of `hearing`, which has most of them together, stands above this crate.
 pub fn ask(profile: Profile, number: u8, live: u64, me: usize, asked: Mode, now: u64) -> Ruled
     ensures { (result.profile ≡ (ask_rule (set_of most_stations live) number now me asked.0 profile).profile) × (said result.answer ≡ said (ask_rule (set_of most_stations live) number now me asked.0 profile).answer) }
 {

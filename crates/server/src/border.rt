@@ -116,6 +116,7 @@ fn nack(station: u8, number: u32, detail: u8) -> Message
 }
 
 // The messages that answer message `number` of a station: the ACK or NACK first, then the demands in station order.
+// Kept: station and number apart, as the message that is answered has them.
 #[tactic(auto, unfolding(crate::specs::Border::sent_for))]
 pub fn messages(answer: Answer, station: u8, number: u32) -> Run
     ensures { result ≡ run_of (sent_for station number answer) }

@@ -32,6 +32,8 @@ pub struct Made {
     pub checked: Result<(), Refusal>,
 }
 
+// The server afterwards, and what it answers.
+// Kept: a type of its own, as `Ruled` of `profiles` and `Outcome` of `station`, since its field says what was left.
 #[derive(Clone, Copy)]
 pub struct Served {
     pub server: Server,

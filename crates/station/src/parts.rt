@@ -11,6 +11,7 @@ use holds::stage::Standing;
 use room::rules::Seen;
 use timing::settings::Settings;
 
+// Kept: the station has the first four as fields of its own too, since the laws of `station` and `network` name them there.
 #[derive(Clone, Copy)]
 pub(crate) struct Parts {
     pub(crate) standing: Standing,
@@ -22,6 +23,7 @@ pub(crate) struct Parts {
 }
 
 // The parts afterwards, and the answer.
+// Kept: a type of its own, as `Ruled` of `profiles` and `Served` of `server`, since its field says what was left.
 #[derive(Clone, Copy)]
 pub(crate) struct Outcome {
     pub(crate) parts: Parts,
