@@ -2,7 +2,7 @@
 ghost use Rattle.std.specs.Prelude.{◌≡◌, Bool};
 ghost use Rattle.masks.specs.Mask.{mask, any, those, change_under, some_under};
 ghost use Rattle.masks.specs.Walk.{Tells};
-ghost use Rattle.members.specs.Mark.{as_word, as_mark, is_marked, is_kept, is_late, wipe_mark, drop_kept, demand, keep_mark, marks_with, remark};
+ghost use Rattle.members.specs.Mark.{as_word, as_mark, is_marked, is_kept, is_late, drop_kept, demand, keep_mark, marks_with, remark};
 
 use timing::reading::Reading;
 use timing::settings::Settings;
@@ -31,14 +31,7 @@ impl Mark {
         }
     }
 
-    // What an event does to a mark.
-
-    pub fn wiped(self) -> Mark
-        ensures { result ≡ wipe_mark self }
-    {
-        Mark::Unmarked
-    }
-
+    // What in use does to a mark: a kept one goes.
     pub fn without_kept(self) -> Mark
         ensures { result ≡ drop_kept self }
     {

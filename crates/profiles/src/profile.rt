@@ -36,7 +36,7 @@ impl Profile {
     {
         Profile {
             row: row::wiped(self.row, set),
-            marks: mark::change_in(self.marks, set, |mark| mark.wiped()),
+            marks: mark::change_in(self.marks, set, |_| Mark::Unmarked),
         }
     }
 
