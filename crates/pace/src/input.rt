@@ -4,6 +4,7 @@
 const MOST: u64 = 1_000_000_000_000;
 
 // One digit more.
+// Kept: by hand, since a number that is too large stays as it is, where `parse` would fail.
 fn grown(value: u64, digit: u8) -> u64 {
     if value > MOST {
         return value;

@@ -26,6 +26,7 @@ pub(crate) fn bytes_of(word: &str) -> Option<Bytes> {
     Some(bytes)
 }
 
+// Kept: a match, since the language allows upper case alone, and `to_digit` of a character takes both.
 fn digit(b: u8) -> Option<u8>
     ensures { IfSome result (λ value. value < 16) }
 {

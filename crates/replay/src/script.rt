@@ -11,6 +11,7 @@ const KEPT: usize = Line::LONGEST + 1;
 pub(crate) struct Script<R> {
     from: BufReader<R>,
     line: Vec<u8>,
+    // Kept: a flag, since what was read last has to be answered before the end is told.
     over: bool,
 }
 
