@@ -1,8 +1,7 @@
 -- 'Checked by hand', the rows marked (P): one table, about the definitions that the contracts cite.
-use Rattle.std.specs.Prelude.{◌≡◌, List, [], ◌∷◌, ◌++◌, ℕ, ℤ, pos, negsuc}
+use Rattle.std.specs.Prelude.{◌≡◌, List, [], ◌∷◌, ◌++◌, ℕ, ℤ, pos, negsuc, Ok}
 use Rattle.modes.specs.Modes.{mode, R, W, X}
 use Rattle.timing.specs.declared.settings.Settings.{Settings}
-use Rattle.timing.specs.declared.lease.Left.TheVariants.{Ticks}
 use Rattle.timing.specs.Settings.{settings, wait}
 use Rattle.timing.specs.Lease.{left_of}
 use Rattle.record.specs.declared.message.Message.{Message}
@@ -53,7 +52,7 @@ pub data Row : Type 0 where
 abbrev pub Holds : Row → Type 0
 Holds (waits z w) = wait z ≡ w
 Holds (phase now n) = phase_at usual Open 100 now ≡ n
-Holds (left now z) = left_of 100 10 now ≡ Ticks z
+Holds (left now z) = left_of 100 10 now ≡ Ok z
 Holds (bytes m bs) = bytes_of m ≡ bs
 Holds (answered before now e a) = (step (wait usual) (served (new_server usual) before) now e).answer ≡ a
 

@@ -1,67 +1,77 @@
-// Plain words and numbers on standard output.
-use std::io;
+// How a row is printed, and in it what the engines answer.
+use record::Message;
+use refusals::Refusal;
+use server::event::Answer;
 use std::io::Print;
+use std::{fmt, io};
+use timing::settings::Phase;
 
-pub(crate) fn text(rt: &impl Print, words: &[u8]) -> io::Result<()> {
-    rt.write_all(words)
+// A row: what is asked, what it should be, and what it was.
+pub(crate) fn row(
+    rt: &impl Print,
+    name: &str,
+    asked: impl fmt::Display + Drop,
+    should: &str,
+    was: impl fmt::Display + Drop,
+) -> io::Result<()> {
+    println!(rt; "{name} {asked}: should be {should}, was {was}")
 }
 
-pub(crate) fn number(rt: &impl Print, n: u64) -> io::Result<()> {
-    print!(rt; "{n}")
-}
+// An answer, or why it is refused.
+#[derive(Drop)]
+pub(crate) struct Told<T>(pub(crate) Result<T, Refusal>);
 
-pub(crate) fn line_end(rt: &impl Print) -> io::Result<()> {
-    text(rt, b"\n")
-}
-
-// The front of a line: what is asked, and what it should be.
-pub(crate) fn should_be(rt: &impl Print, name: &[u8], n: u64, should: &[u8]) -> io::Result<()> {
-    text(rt, name)?;
-    number(rt, n)?;
-    text(rt, b": should be ")?;
-    text(rt, should)?;
-    text(rt, b", was ")
-}
-
-pub(crate) fn refused(rt: &impl Print, n: u8) -> io::Result<()> {
-    text(rt, b"refused ")?;
-    number(rt, n as u64)
-}
-
-// The cases have no other number of ticks.
-pub(crate) fn signed(rt: &impl Print, n: i64) -> io::Result<()> {
-    if n == 0 {
-        text(rt, b"0")
-    } else if n == -1 {
-        text(rt, b"-1")
-    } else {
-        text(rt, b"another number")
-    }
-}
-
-fn glyph(n: u8) -> u8 {
-    let low = n % 16;
-    if low < 10 {
-        return low + 48;
-    }
-    low + 55
-}
-
-fn digit(rt: &impl Print, n: u8) -> io::Result<()> {
-    let one = [glyph(n)];
-    text(rt, &one)
-}
-
-// Eleven bytes in upper case, a space between two.
-pub(crate) fn bytes(rt: &impl Print, buf: [u8; 11]) -> io::Result<()> {
-    let mut i: usize = 0;
-    while i < 11 {
-        if 0 < i {
-            text(rt, b" ")?;
+impl<T: fmt::Display> fmt::Display for Told<T> {
+    fn fmt<W: fmt::Write>(&self, f: &mut fmt::Formatter<W>) -> fmt::Result {
+        match &self.0 {
+            Ok(answer) => answer.fmt(f),
+            Err(refusal) => refusal.fmt(f),
         }
-        digit(rt, buf[i] / 16)?;
-        digit(rt, buf[i])?;
-        i += 1;
     }
-    Ok(())
+}
+
+// The number of a phase, from 1 on; none is out.
+#[derive(Drop)]
+pub(crate) struct AtPhase(pub(crate) Option<Phase>);
+
+impl fmt::Display for AtPhase {
+    fn fmt<W: fmt::Write>(&self, f: &mut fmt::Formatter<W>) -> fmt::Result {
+        match self.0 {
+            Some(phase) => write!(f, "{}", phase.number()),
+            None => write!(f, "out"),
+        }
+    }
+}
+
+// The bytes of a record in upper case, a space between two.
+#[derive(Drop)]
+pub(crate) struct Record(pub(crate) [u8; Message::LENGTH]);
+
+impl fmt::Display for Record {
+    fn fmt<W: fmt::Write>(&self, f: &mut fmt::Formatter<W>) -> fmt::Result {
+        for (i, byte) in self.0.iter().enumerate() {
+            let space = if i == 0 { "" } else { " " };
+            write!(f, "{space}{byte:02X}")?;
+        }
+        Ok(())
+    }
+}
+
+#[derive(Drop)]
+pub(crate) struct Served(pub(crate) Answer);
+
+impl fmt::Display for Served {
+    fn fmt<W: fmt::Write>(&self, f: &mut fmt::Formatter<W>) -> fmt::Result {
+        match self.0 {
+            Answer::Done => write!(f, "done"),
+            Answer::Granted(profile, mode) => write!(f, "granted {profile} mode {}", mode.0),
+            Answer::Wait(profile, _, mask, count) => {
+                write!(f, "wait {profile} mask {mask} count {count}")
+            }
+            Answer::InUse(profile) => write!(f, "in use {profile}"),
+            Answer::Nack(detail) => write!(f, "NACK {detail}"),
+            Answer::Ticked(freed, started) => write!(f, "freed {freed} started {started}"),
+            Answer::Refused(refusal) => refusal.fmt(f),
+        }
+    }
 }

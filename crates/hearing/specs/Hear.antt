@@ -13,6 +13,7 @@ use Rattle.requests.specs.declared.Request.TheVariants.{Hello, KeepAlive, Ask, R
 use Rattle.profiles.specs.declared.answer.Answer.{Answer}
 use Rattle.profiles.specs.declared.answer.Answer.TheVariants.{Done, Nack, Refused}
 use Rattle.profiles.specs.declared.ask.Ruled.{Ruled}
+use Rattle.refusals.specs.declared.Refusal.TheVariants.{StaleNumber}
 pub use Rattle.hearing.specs.declared.Heard.{Heard}
 
 -- the station and the profile as they are then, and the answer
@@ -58,7 +59,7 @@ numbered number m = record { status = m.status; last = number }
 -- "A message number not above the station's last one is refusal 7."
 unfoldable pub if_new : Bool → Set → ℕ → ℕ → ℕ → Request → Member → Profile → Heard
 if_new true live now me number q m x = by_status m.status live now me q (numbered number m) x
-if_new false live now me number q m x = answered m x (Refused 7)
+if_new false live now me number q m x = answered m x (Refused StaleNumber)
 
 unfoldable pub hear : Set → ℕ → ℕ → ℕ → Request → Member → Profile → Heard
 hear live now me number q m x = if_new (ltb m.last number) live now me number q m x

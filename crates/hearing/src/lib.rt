@@ -12,58 +12,109 @@ use members::member::{Member, Status};
 use profiles::answer::Answer;
 use profiles::ask;
 use profiles::profile::Profile;
+use refusals::Refusal;
 use requests::Request;
 use timing::settings::Settings;
+
+// What a message is judged on: who sent it, that station and the profile that it names, who is live, and when.
+#[derive(Clone, Copy)]
+pub struct Seen {
+    pub me: usize,
+    pub member: Member,
+    pub profile: Profile,
+    // The set of the live stations, which an ask needs to know.
+    pub live: u64,
+    pub reading: u64,
+}
 
 // The station and the profile afterwards, whether all that the station had is to go, and the answer.
 #[derive(Clone, Copy)]
 pub struct Heard {
     pub member: Member,
     pub profile: Profile,
+    // Kept: as the definition has it; `gone` makes the set of it.
     pub greeted: bool,
     pub answer: Answer,
 }
 
-fn answered(member: Member, profile: Profile, answer: Answer) -> Heard
-    ensures { result ≡ answered member profile answer }
-{
-    Heard {
-        member,
-        profile,
-        greeted: false,
-        answer,
-    }
-}
-
-fn greeted(member: Member, profile: Profile) -> Heard
-    ensures { result ≡ greeted member profile }
-{
-    Heard {
-        member: Member {
-            status: Status::Live,
-            last: member.last,
-        },
-        profile,
-        greeted: true,
-        answer: Answer::Done,
-    }
-}
-
-// What a live station's message does.
-fn heed(member: Member, profile: Profile, live: u64, now: u64, me: usize, request: Request) -> Heard
-    ensures { result ≡ heed (set_of most_stations live) now me request member profile }
-{
-    match request {
-        Request::Hello => greeted(member, profile),
-        Request::KeepAlive => answered(member, profile, Answer::Done),
-        Request::Ask(number, asked) => {
-            let ruled = ask::ask(profile, number, live, me, asked, now);
-            let next = ruled.profile;
-            let answer = ruled.answer;
-            answered(member, next, answer)
+impl Seen {
+    fn answered(self, answer: Answer) -> Heard
+        ensures { result ≡ answered self.member self.profile answer }
+    {
+        Heard {
+            member: self.member,
+            profile: self.profile,
+            greeted: false,
+            answer,
         }
-        Request::Release(_) => answered(member, profile.wiped(only(me)), Answer::Done),
-        Request::Keep(_) => answered(member, profile.kept(only(me)), Answer::Done),
+    }
+
+    fn greeted(self) -> Heard
+        ensures { result ≡ greeted self.member self.profile }
+    {
+        Heard {
+            member: self.member.with_status(Status::Live),
+            profile: self.profile,
+            greeted: true,
+            answer: Answer::Done,
+        }
+    }
+
+    // What a live station's message does.
+    #[tactic(auto, using(profiles::proofs::Under::wiped_under_lem, profiles::proofs::Under::kept_under_lem), unfolding(crate::specs::Hear::heed))]
+    fn heed(mut self, request: Request) -> Heard
+        ensures { result ≡ heed (set_of most_stations self.live) self.reading self.me request self.member self.profile }
+    {
+        match request {
+            Request::Hello => self.greeted(),
+            Request::KeepAlive => self.answered(Answer::Done),
+            Request::Ask(number, asked) => {
+                let ruled = ask::ask(
+                    self.profile,
+                    number,
+                    self.live,
+                    self.me,
+                    asked,
+                    self.reading,
+                );
+                self.profile = ruled.profile;
+                self.answered(ruled.answer)
+            }
+            Request::Release(_) => {
+                self.profile = self.profile.wiped(only(self.me));
+                self.answered(Answer::Done)
+            }
+            Request::Keep(_) => {
+                self.profile = self.profile.kept(only(self.me));
+                self.answered(Answer::Done)
+            }
+        }
+    }
+
+    // A station that is unknown is heard only with a hello.
+    #[tactic(auto, unfolding(crate::specs::Hear::welcome))]
+    fn welcome(self, request: Request) -> Heard
+        ensures { result ≡ welcome request self.member self.profile }
+    {
+        match request {
+            Request::Hello => self.greeted(),
+            _ => self.answered(Answer::Nack(1)),
+        }
+    }
+
+    #[tactic(auto, unfolding(crate::specs::Hear::hear, crate::specs::Hear::if_new, crate::specs::Hear::by_status))]
+    pub fn hear(mut self, number: u32, request: Request) -> Heard
+        ensures { told result ≡ told (hear (set_of most_stations self.live) self.reading self.me number request self.member self.profile) }
+    {
+        if number <= self.member.last {
+            return self.answered(Answer::Refused(Refusal::StaleNumber));
+        }
+        self.member.last = number;
+        match self.member.status {
+            Status::Unknown => self.welcome(request),
+            Status::Live => self.heed(request),
+            Status::TimingOut(_) => self.answered(Answer::Nack(0)),
+        }
     }
 }
 
@@ -72,9 +123,10 @@ fn only(station: usize) -> u64
     ensures { result ≡ mask (only station) }
 {
     if station < Settings::STATIONS {
-        return 1 << station;
+        1 << station
+    } else {
+        0
     }
-    0
 }
 
 // The set whose modes and marks go on every profile: a station that is greeted, or nobody.
@@ -84,80 +136,23 @@ pub fn gone(greeted: bool, station: usize) -> u64
     if greeted { only(station) } else { 0 }
 }
 
-// A station that is unknown is heard only with a hello.
-fn welcome(member: Member, profile: Profile, request: Request) -> Heard
-    ensures { result ≡ welcome request member profile }
-{
-    match request {
-        Request::Hello => greeted(member, profile),
-        _ => answered(member, profile, Answer::Nack(1)),
-    }
-}
-
-// `live` is the set of the live stations, which an ask needs to know.
-pub fn hear(
-    member: Member,
-    profile: Profile,
-    live: u64,
-    now: u64,
-    me: usize,
-    number: u32,
-    request: Request,
-) -> Heard
-    ensures { told result ≡ told (hear (set_of most_stations live) now me number request member profile) }
-{
-    if number <= member.last {
-        return answered(member, profile, Answer::Refused(7));
-    }
-    let status = member.status;
-    let noted = Member {
-        status,
-        last: number,
-    };
-    match status {
-        Status::Unknown => welcome(noted, profile, request),
-        Status::Live => heed(noted, profile, live, now, me, request),
-        Status::TimingOut(_) => answered(noted, profile, Answer::Nack(0)),
-    }
-}
-
 // Whether the request is one about a profile.
 fn names(request: Request) -> bool
     ensures { result ≡ names request }
 {
-    match request {
-        Request::Hello => false,
-        Request::KeepAlive => false,
-        Request::Ask(_, _) => true,
-        Request::Release(_) => true,
-        Request::Keep(_) => true,
-    }
+    !matches!(request, Request::Hello | Request::KeepAlive)
 }
 
 // Whether a message comes to a rule about the profile that it names: any other leaves every profile as it is, or is a hello.
 pub fn looks(member: Member, number: u32, request: Request) -> bool
     ensures { result ≡ looks number request member }
 {
-    if member.last >= number {
-        return false;
-    }
-    let status = member.status;
-    match status {
-        Status::Unknown => false,
-        Status::Live => names(request),
-        Status::TimingOut(_) => false,
-    }
+    member.last < number && member.is_live() && names(request)
 }
 
 // Whether the request is an ask: no other needs to know who is live.
 pub fn asks(request: Request) -> bool
     ensures { result ≡ asks request }
 {
-    match request {
-        Request::Hello => false,
-        Request::KeepAlive => false,
-        Request::Ask(_, _) => true,
-        Request::Release(_) => false,
-        Request::Keep(_) => false,
-    }
+    matches!(request, Request::Ask(..))
 }

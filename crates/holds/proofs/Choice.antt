@@ -1,4 +1,4 @@
--- What the code's helpers find, as the definitions have it.
+-- The stage by the phase, and the phase by where a station stands.
 -- Assumes nothing.
 use mathlib.Core.Path.{◌≡◌, sym, ap, ◌∙◌}
 use mathlib.Core.Bool.{Bool, false, ◌&&◌}
@@ -7,7 +7,8 @@ use native.Mathlib.Omega.{arith}
 use lib.Dec.{leb}
 use borrow.Author.Tests.{le-leb}
 use Rattle.timing.specs.declared.settings.Settings.{Settings}
-use Rattle.timing.specs.declared.settings.Phase.{Phase}
+use Rattle.std.proofs.Common.{Option}
+use Rattle.timing.specs.declared.settings.Running.{Running}
 use Rattle.timing.specs.Phase.{said_phase, phase_after}
 use Rattle.timing.proofs.Said.{phase_told}
 use Rattle.timing.proofs.Choice.{both}
@@ -28,7 +29,7 @@ module _ (z : Settings) (σ : Standing) (start now : ℕ) (o : Bool) (n : ℕ) (
   stage_in h = ap (λ (t : Bool). record { out = o; early = t && leb n 2; not_late = t && leb n 3 }) (sym (le-leb 1 n (omega arith))) ∙ whole
 
 -- the phase of a station; f is what the settings answer of the ticks since its lease's start
-module _ (z : Settings) (σ : Standing) (start now t : ℕ) (e : t ≡ now - start) (f : Phase) (d : said_phase f ≡ said_phase (phase_after z t)) where
+module _ (z : Settings) (σ : Standing) (start now t : ℕ) (e : t ≡ now - start) (f : Option Running) (d : said_phase f ≡ said_phase (phase_after z t)) where
   in_phase : f ≡ phase_after z (now - start)
   in_phase = phase_told f (phase_after z t) d ∙ ap (phase_after z) e
 

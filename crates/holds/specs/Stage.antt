@@ -1,9 +1,10 @@
 -- Where a station stands in its lease.
-use Rattle.std.specs.Prelude.{Bool, true, false, ◌&&◌, ℕ, ◌-◌, leb}
+use Rattle.std.specs.Prelude.{Bool, true, false, ◌&&◌, ℕ, ◌-◌, leb, Option, Some, None}
 use Rattle.timing.specs.declared.settings.Settings.{Settings}
 use Rattle.timing.specs.declared.settings.Phase.{Phase}
-use Rattle.timing.specs.declared.settings.Phase.TheVariants as phase
-use Rattle.timing.specs.Phase.{phase_after}
+use Rattle.timing.specs.declared.settings.Phase.TheVariants.{First, Second, Third, Fourth}
+use Rattle.timing.specs.declared.settings.Running.{Running}
+use Rattle.timing.specs.Phase.{phase_number, phase_after}
 pub use Rattle.holds.specs.declared.stage.Standing.{Standing}
 pub use Rattle.holds.specs.declared.stage.Standing.TheVariants.{Out, Open, Closing}
 pub use Rattle.holds.specs.declared.stage.Stage.{Stage}
@@ -13,23 +14,28 @@ is_out Out = true
 is_out Open = false
 is_out Closing = false
 
+-- a phase in the paper's numbers; 0 is out
+abbrev pub phase_said : Option Phase → ℕ
+phase_said (Some f) = phase_number f
+phase_said None = 0
+
 -- "Phases 1 to 4 follow the four lengths from the lease start"; 0 is out
-abbrev pub open_phase : Phase → ℕ
-open_phase (phase.First left) = 1
-open_phase (phase.Second left) = 2
-open_phase (phase.Third left) = 3
-open_phase (phase.Fourth left) = 4
-open_phase phase.Out = 0
+abbrev pub open_phase : Option Running → ℕ
+open_phase (Some f) = phase_number f.phase
+open_phase None = 0
 
 -- "closing counts phases 1 and 2 as 3"
-abbrev pub closing_phase : Phase → ℕ
-closing_phase (phase.First left) = 3
-closing_phase (phase.Second left) = 3
-closing_phase (phase.Third left) = 3
-closing_phase (phase.Fourth left) = 4
-closing_phase phase.Out = 0
+abbrev pub closing_number : Phase → ℕ
+closing_number First = 3
+closing_number Second = 3
+closing_number Third = 3
+closing_number Fourth = 4
 
-abbrev pub room_phase : Standing → Phase → ℕ
+abbrev pub closing_phase : Option Running → ℕ
+closing_phase (Some f) = closing_number f.phase
+closing_phase None = 0
+
+abbrev pub room_phase : Standing → Option Running → ℕ
 room_phase Out f = 0
 room_phase Open f = open_phase f
 room_phase Closing f = closing_phase f

@@ -6,7 +6,7 @@ ghost use Rattle.holds.specs.Hold.{no_hold, no_holds, hold_in, with_mode, with_s
 use modes::Mode;
 use timing::settings::Settings;
 
-#[derive(Clone, Copy)]
+#[derive(Clone, Copy, Debug, PartialEq, Eq)]
 pub struct Hold {
     pub mode: Mode,
     pub started: u8,
@@ -30,63 +30,44 @@ impl Hold {
     pub fn with_mode(self, mode: Mode) -> Hold
         ensures { result ≡ with_mode mode.0 self }
     {
-        Hold {
-            mode,
-            started: self.started,
-            unwritten: self.unwritten,
-        }
+        Hold { mode, ..self }
     }
 
     pub fn with_started(self, started: u8) -> Hold
         ensures { result ≡ with_started started self }
     {
-        let mode = self.mode;
-        Hold {
-            mode,
-            started,
-            unwritten: self.unwritten,
-        }
+        Hold { started, ..self }
     }
 
     pub fn with_unwritten(self, unwritten: bool) -> Hold
         ensures { result ≡ with_unwritten unwritten self }
     {
-        let mode = self.mode;
-        Hold {
-            mode,
-            started: self.started,
-            unwritten,
-        }
+        Hold { unwritten, ..self }
     }
 }
 
-pub fn no_holds() -> [Hold; Settings::PROFILES]
+// One for each profile.
+pub type Holds = [Hold; Settings::PROFILES];
+
+#[tactic(auto, unfolding(crate::specs::Hold::no_holds))]
+pub fn no_holds() -> Holds
     ensures { result ≡ no_holds }
 {
-    let empty = Hold::empty();
-    [empty; Settings::PROFILES]
+    [Hold::empty(); Settings::PROFILES]
 }
 
-pub fn hold_at(holds: [Hold; Settings::PROFILES], profile: u8) -> Hold
+pub fn hold_at(holds: Holds, profile: u8) -> Hold
     ensures { result ≡ hold_in holds profile }
 {
-    let at = profile as usize;
-    if at < Settings::PROFILES {
-        return holds[at];
-    }
-    Hold::empty()
+    holds
+        .get(profile as usize)
+        .copied()
+        .unwrap_or(Hold::empty())
 }
 
 // The profiles with something unwritten.
-pub fn unwritten_in(holds: [Hold; Settings::PROFILES]) -> u64
+pub fn unwritten_in(holds: Holds) -> u64
     ensures { result ≡ mask (unwritten_set holds) }
 {
-    let mut mask: u64 = 0;
-    let mut i: usize = Settings::PROFILES;
-    while 0 < i {
-        i -= 1;
-        let hold = holds[i];
-        mask = mask * 2 + masks::bit(hold.unwritten);
-    }
-    mask
+    masks::those(&holds, |hold: Hold| hold.unwritten)
 }

@@ -1,17 +1,19 @@
 // Where a station stands in its lease, as the rules ask for it.
-ghost use Rattle.std.specs.Prelude.{◌≡◌, ◌-◌};
-ghost use Rattle.holds.specs.Stage.{is_out, open_phase, closing_phase, phase_at, stage_at};
+ghost use Rattle.std.specs.Prelude.{◌≡◌};
+ghost use Rattle.timing.specs.Phase.{phase_number};
+ghost use Rattle.holds.specs.Stage.{phase_said, closing_number, phase_at, stage_at};
 
 use timing::settings::{Phase, Settings};
 
-#[derive(Clone, Copy)]
+#[derive(Clone, Copy, Debug, PartialEq, Eq)]
 pub enum Standing {
     Out,
     Open,
     Closing,
 }
 
-#[derive(Clone, Copy)]
+// Kept: three flags, each of which a rule asks for by itself, as `stage_at` has them.
+#[derive(Clone, Copy, Debug, PartialEq, Eq)]
 pub struct Stage {
     pub out: bool,
     // Open, phase 1 or 2.
@@ -20,59 +22,24 @@ pub struct Stage {
     pub not_late: bool,
 }
 
-pub fn is_out(standing: Standing) -> bool
-    ensures { result ≡ is_out standing }
-{
-    match standing {
-        Standing::Out => true,
-        Standing::Open => false,
-        Standing::Closing => false,
-    }
-}
-
-fn open_phase(phase: Phase) -> u8
-    ensures { result ≡ open_phase phase }
-{
-    match phase {
-        Phase::First(_) => 1,
-        Phase::Second(_) => 2,
-        Phase::Third(_) => 3,
-        Phase::Fourth(_) => 4,
-        Phase::Out => 0,
-    }
-}
-
 // Closing counts phases 1 and 2 as 3.
-fn closing_phase(phase: Phase) -> u8
-    ensures { result ≡ closing_phase phase }
+fn while_closing(phase: Phase) -> Phase
+    ensures { phase_number result ≡ closing_number phase }
 {
-    match phase {
-        Phase::First(_) => 3,
-        Phase::Second(_) => 3,
-        Phase::Third(_) => 3,
-        Phase::Fourth(_) => 4,
-        Phase::Out => 0,
-    }
+    phase.max(Phase::Third)
 }
 
-fn ticks_since(start: u64, reading: u64) -> u64
-    ensures { result ≡ reading - start }
+// None where the station is out, or its lease over.
+// Kept: `stage_of` takes the same four values; a station asks each in one place, and a struct of them would be built for that alone.
+#[tactic(auto, using(timing::proofs::Said::phase_told), unfolding(crate::specs::Stage::phase_at))]
+pub fn phase_at(settings: Settings, standing: Standing, start: u64, reading: u64) -> Option<Phase>
+    ensures { phase_said result ≡ phase_at settings standing start reading }
 {
-    if reading < start {
-        return 0;
-    }
-    reading - start
-}
-
-// 1 to 4, or 0 for out.
-pub fn phase_at(settings: Settings, standing: Standing, start: u64, reading: u64) -> u8
-    ensures { result ≡ phase_at settings standing start reading }
-{
-    let phase = settings.phase(ticks_since(start, reading));
+    let running = settings.phase(reading.saturating_sub(start))?;
     match standing {
-        Standing::Out => 0,
-        Standing::Open => open_phase(phase),
-        Standing::Closing => closing_phase(phase),
+        Standing::Out => None,
+        Standing::Open => Some(running.phase),
+        Standing::Closing => Some(while_closing(running.phase)),
     }
 }
 
@@ -80,17 +47,9 @@ pub fn stage_of(settings: Settings, standing: Standing, start: u64, reading: u64
     ensures { result ≡ stage_at settings standing start reading }
 {
     let phase = phase_at(settings, standing, start, reading);
-    let out = is_out(standing);
-    if phase == 0 {
-        return Stage {
-            out,
-            early: false,
-            not_late: false,
-        };
-    }
     Stage {
-        out,
-        early: phase <= 2,
-        not_late: phase <= 3,
+        out: standing == Standing::Out,
+        early: phase.is_some_and(|phase| phase <= Phase::Second),
+        not_late: phase.is_some_and(|phase| phase <= Phase::Third),
     }
 }

@@ -1,79 +1,80 @@
--- Each way that the code goes as it judges an event, as the definitions have it.
+-- Each way that the code goes as it judges an event, as the definitions have it; what the event is about is in the arrays.
 -- Assumes nothing.
-use mathlib.Core.Path.{◌≡◌, refl, sym, ap, subst, ◌∙◌}
-use mathlib.Core.Bool.{Bool}
-use Prim.Native.Nat.{ℕ, zero, suc, ◌<◌}
-use native.Mathlib.Omega.{arith}
+use Rattle.std.proofs.Common.{◌≡◌, ℕ, ◌<◌, Option, Some, None, Result, Ok, Err, refl, sym, ap, subst, ◌∙◌, arith}
+use Rattle.std.specs.Prelude.{IfOk}
+use Rattle.std.specs.Option.{unwrap_or, MatchOption}
 use Rattle.masks.specs.Mask.{set_of}
+use Rattle.refusals.specs.Refusal.{Verdict}
+use Rattle.refusals.specs.declared.Refusal.{Refusal}
 use Rattle.timing.specs.Limits.{most_stations, most_profiles}
 use Rattle.timing.specs.declared.settings.Settings.{Settings}
+use Rattle.profiles.specs.declared.profile.Profile.{Profile}
 use Rattle.requests.specs.Request.{profile_of}
+use Rattle.profiles.specs.Profile.{empty_profile}
 use Rattle.hearing.specs.declared.Heard.{Heard}
 use Rattle.hearing.specs.Hear.{hear, told}
 use Rattle.hearing.proofs.Told.{heard_told}
-use Rattle.members.specs.declared.member.Member.{Member}
-use Rattle.profiles.specs.declared.profile.Profile.{Profile}
 use Rattle.judging.specs.Event.{Request, Event, Message, Tick}
 use Rattle.judging.specs.Refusal.{refusal}
-use Rattle.judging.specs.Judge.{Route, route_to, route_by, route_of, nothing, needed_for, refused_on, ticking_on, heard_as, judged_by, judged_for}
+use Rattle.judging.specs.Judge.{Route, Looked, After, Refused, Ticks, Leaves, route_to, route_by, route_of, heard_as, heard_for, judged_at, judged_for}
 use Rattle.judging.proofs.Refusals.{in_arrays}
 
--- what the event is about: its station and its profile are in the arrays, also where it is refused
+abbrev pub Within : Route → Type 0
+Within r = (r.station < most_stations) × (r.place < most_profiles)
+
 module _ (z : Settings) (last now : ℕ) (e : Event) where
-  pub route_within : ((route_of z last now e).station < most_stations) × ((route_of z last now e).place < most_profiles)
+  pub route_within : IfOk (route_of z last now e) Within
   unfolding route_of
-  route_within = by_code (refusal z last now e) e refl
+  route_within = by_verdict (refusal z last now e) e refl
     where
-      by_code : (n : ℕ) (e : Event) → refusal z last now e ≡ n → ((route_by n e).station < most_stations) × ((route_by n e).place < most_profiles)
-      by_code zero (Message i k q) h = in_arrays z last now i k q h
-      by_code zero Tick h = (omega arith, omega arith)
-      by_code (suc n) e h = (omega arith, omega arith)
+      by_verdict : (v : Verdict) (e : Event) → refusal z last now e ≡ v → IfOk (route_by v e) Within
+      by_verdict (Ok _) (Message i k q) h = in_arrays z last now i k q h
+      by_verdict (Ok _) Tick h = (omega arith, omega arith)
+      by_verdict (Err r) e h = tt
 
-  pub routed : (r : Route) → r ≡ route_of z last now e → (r ≡ route_of z last now e) × ((r.station < most_stations) × (r.place < most_profiles))
-  routed r q = (q, subst (λ (r : Route). (r.station < most_stations) × (r.place < most_profiles)) (sym q) route_within)
+  pub routed : (r : Route) → Ok r ≡ route_of z last now e → Within r
+  routed r q = subst (λ (v : Result Route Refusal). IfOk v Within) (sym q) route_within
 
-  module _ (n : ℕ) (found : n ≡ refusal z last now e) where
-    pub refused_route : (n ≡ 0 → ⊥) → route_to n 0 0 ≡ route_of z last now e
+  pub refused_route : (r : Refusal) → Err r ≡ refusal z last now e → Err r ≡ route_of z last now e
+  unfolding route_of
+  refused_route r found = rw (sym found) refl
+
+  module _ (accepted : Ok tt ≡ refusal z last now e) where
+    pub message_route : (i k : ℕ) (q : Request) → e ≡ Message i k q → (p : ℕ) → p ≡ profile_of q → Ok (route_to i p) ≡ route_of z last now e
     unfolding route_of
-    refused_route h = by_code n h ∙ ap (λ (k : ℕ). route_by k e) found
-      where
-        by_code : (n : ℕ) → (n ≡ 0 → ⊥) → route_to n 0 0 ≡ route_by n e
-        by_code zero h = absurd (h refl)
-        by_code (suc n) h = refl
+    message_route i k q is p at = rw (sym accepted, is, at) refl
 
-    accepted_route : n ≡ 0 → route_by 0 e ≡ route_of z last now e
+    pub tick_route : e ≡ Tick → Ok (route_to 0 0) ≡ route_of z last now e
     unfolding route_of
-    accepted_route h = ap (λ (k : ℕ). route_by k e) (sym h ∙ found)
+    tick_route is = rw (sym accepted, is) refl
 
-    pub message_route : n ≡ 0 → (i k : ℕ) (q : Request) → e ≡ Message i k q → (p : ℕ) → p ≡ profile_of q → route_to 0 i p ≡ route_of z last now e
-    message_route h i k q is p at = ap (route_to 0 i) at ∙ ap (route_by 0) (sym is) ∙ accepted_route h
+-- the profile that was looked at, or an empty one
+looked_at : (o : Option Profile) (x : Profile) → MatchOption o (x ≡ empty_profile) (λ y. x ≡ y) → x ≡ unwrap_or o empty_profile
+looked_at (Some y) x e = e
+looked_at None x e = e
 
-    pub tick_route : n ≡ 0 → e ≡ Tick → route_to 0 0 0 ≡ route_of z last now e
-    tick_route h is = ap (route_by 0) (sym is) ∙ accepted_route h
-
-pub refused_needs : (n : ℕ) (m : Member) (e : Event) → (n ≡ 0 → ⊥) → nothing ≡ needed_for n m e
-unfolding needed_for
-refused_needs zero m e h = absurd (h refl)
-refused_needs (suc n) m e h = refl
+module _ (l : Looked) (now k : ℕ) (q : Request) (x : Profile) (h : Heard) where
+  pub message_heard : MatchOption l.profile (x ≡ empty_profile) (λ y. x ≡ y)
+      → told h ≡ told (hear (set_of most_stations l.live) now l.route.station k q l.member x)
+      → heard_as l.route l.profile h ≡ heard_for l now k q
+  unfolding heard_for
+  message_heard looked e =
+      ap (heard_as l.route l.profile)
+      (heard_told h (hear (set_of most_stations l.live) now l.route.station k q l.member x) e
+      ∙ ap (hear (set_of most_stations l.live) now l.route.station k q l.member) (looked_at l.profile x looked))
 
 -- what is judged, over what was looked at
-module _ (r : Route) (last : ℕ) (writes : Bool) (m : Member) (x : Profile) (live now : ℕ) (e : Event) where
-  pub refused_judged : (r.code ≡ 0 → ⊥) → refused_on r last m x ≡ judged_for r last writes m x live now e
+module _ (last now : ℕ) (e : Event) where
+  pub refused_judged : (r : Refusal) → judged_at last (Refused r) ≡ judged_for (Err r) last now e
   unfolding judged_for
-  refused_judged h = by_code r.code h
-    where
-      by_code : (n : ℕ) → (n ≡ 0 → ⊥) → refused_on r last m x ≡ judged_by n r last writes m x live now e
-      by_code zero h = absurd (h refl)
-      by_code (suc n) h = refl
+  refused_judged r = refl
 
-  pub tick_judged : r.code ≡ 0 → e ≡ Tick → ticking_on r now m x ≡ judged_for r last writes m x live now e
-  unfolding judged_for
-  tick_judged h is = λ j. judged_by (sym h j) r last writes m x live now (sym is j)
+  module _ (l : Looked) where
+    pub tick_judged : e ≡ Tick → judged_at now Ticks ≡ judged_for (Ok l) last now e
+    unfolding judged_for
+    tick_judged is = rw is refl
 
-  pub message_judged : r.code ≡ 0 → (i k : ℕ) (q : Request) → e ≡ Message i k q
-      → (h : Heard) → told h ≡ told (hear (set_of most_stations live) now r.station k q m x)
-      → heard_as r now writes h ≡ judged_for r last writes m x live now e
-  unfolding judged_for
-  message_judged c i k q is h t =
-      ap (heard_as r now writes) (heard_told h (hear (set_of most_stations live) now r.station k q m x) t)
-      ∙ (λ j. judged_by (sym c j) r last writes m x live now (sym is j))
+    pub message_judged : (i k : ℕ) (q : Request) → e ≡ Message i k q → (a : After) → a ≡ heard_for l now k q
+        → judged_at now (Leaves a) ≡ judged_for (Ok l) last now e
+    unfolding judged_for
+    message_judged i k q is a h = rw is (ap (λ (a : After). judged_at now (Leaves a)) h)

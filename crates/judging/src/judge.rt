@@ -1,171 +1,157 @@
 // What an event answers, and what is to be stored then: judged on the one station and the one profile that it names.
-ghost use Rattle.std.specs.Prelude.{◌≡◌, ◌<◌};
+ghost use Rattle.std.specs.Prelude.{◌≡◌, ◌<◌, IfOk};
 ghost use Rattle.timing.specs.Limits.{most_stations, most_profiles};
-ghost use Rattle.judging.specs.Judge.{route_to, route_of, needed_for, refused_on, ticking_on, heard_as, judged_for, told};
+ghost use Rattle.judging.specs.Judge.{route_of, needed_for, heard_for, judged_for};
 
 use crate::event::{Answer, Event};
 use crate::refusal;
-use hearing::Heard;
+use hearing::Seen;
 use members::member::Member;
 use profiles::profile::Profile;
+use refusals::Refusal;
+use requests::Request;
 use timing::settings::Settings;
 
-// What an event is about: 1 to 6 where it is refused, else 0; its station and its profile, the first where it names none.
-#[derive(Clone, Copy)]
+// What an event is about that nothing refuses: its station and its profile, the first where it names none.
+// Kept: no ghost field that says they are in the arrays, since `judge` takes any route; `routed` says it of its own.
+#[derive(Clone, Copy, Debug, PartialEq, Eq)]
 pub struct Route {
-    pub code: u8,
     pub station: usize,
     pub place: usize,
 }
 
-// What has to be looked at to judge it: the profile, who is live.
+// What has to be looked at to judge it, besides its station.
+#[derive(Clone, Copy, Debug, PartialEq, Eq)]
+pub enum Needs {
+    Nothing,
+    Profile,
+    ProfileAndLive,
+}
+
+// What was looked at: the station, the profile if it was needed, and the set of the live stations, nobody where it was not.
+// Kept: the set of nobody and no Option, since only an ask reads it, and for an ask it is always looked at.
 #[derive(Clone, Copy)]
-pub struct Needs {
-    pub profile: bool,
-    pub live: bool,
+pub struct Looked {
+    pub route: Route,
+    pub member: Member,
+    pub profile: Option<Profile>,
+    pub live: u64,
+}
+
+// What a message leaves, and what it answers.
+#[derive(Clone, Copy)]
+pub struct After {
+    pub route: Route,
+    pub member: Member,
+    // None where the profile stays as it is.
+    pub profile: Option<Profile>,
+    // The stations whose modes and marks go on every profile.
+    pub gone: u64,
+    pub answer: Answer,
+}
+
+#[derive(Clone, Copy)]
+pub enum Outcome {
+    // Refusals 1 to 6 change nothing.
+    Refused(Refusal),
+    // What a tick answers is known once it is done.
+    Ticks,
+    Leaves(After),
 }
 
 #[derive(Clone, Copy)]
 pub struct Judged {
-    // A tick: what it answers is known once it is done.
-    pub ticks: bool,
-    // Whether the profile is to be stored.
-    pub writes: bool,
-    pub station: usize,
-    pub place: usize,
+    // The server's reading afterwards.
     pub reading: u64,
-    // The stations whose modes and marks go on every profile.
-    pub gone: u64,
-    pub answer: Answer,
-    pub member: Member,
-    pub profile: Profile,
+    pub outcome: Outcome,
 }
 
-fn route_to(code: u8, station: usize, place: usize) -> Route
-    ensures { result ≡ route_to code station place }
+#[tactic(auto, using(crate::proofs::Refusals::in_arrays), unfolding(crate::specs::Judge::route_of))]
+pub fn routed(settings: Settings, last: u64, reading: u64, event: Event) -> Result<Route, Refusal>
+    ensures { (result ≡ route_of settings last reading event) × IfOk result (λ r. (r.station < most_stations) × (r.place < most_profiles)) }
 {
-    Route {
-        code,
-        station,
-        place,
-    }
+    refusal::check(settings, last, reading, event)?;
+    Ok(match event {
+        Event::Message(station, _, request) => Route {
+            station: station as usize,
+            place: requests::profile_of(request) as usize,
+        },
+        Event::Tick => Route {
+            station: 0,
+            place: 0,
+        },
+    })
 }
 
-pub fn routed(settings: Settings, last: u64, reading: u64, event: Event) -> Route
-    ensures { (result ≡ route_of settings last reading event) × ((result.station < most_stations) × (result.place < most_profiles)) }
+// A tick needs nothing; of the messages only one about a profile needs that profile.
+#[tactic(auto, unfolding(crate::specs::Judge::needed_for))]
+pub fn needed(member: Member, event: Event) -> Needs
+    ensures { result ≡ needed_for member event }
 {
-    let code = refusal::refusal(settings, last, reading, event);
-    if code != 0 {
-        return route_to(code, 0, 0);
-    }
-    match event {
-        Event::Message(station, _, request) => {
-            route_to(0, station as usize, requests::profile_of(request) as usize)
-        }
-        Event::Tick => route_to(0, 0, 0),
-    }
-}
-
-// A refusal and a tick need nothing; of the messages only one about a profile needs that profile.
-pub fn needed(code: u8, member: Member, event: Event) -> Needs
-    ensures { result ≡ needed_for code member event }
-{
-    if code != 0 {
-        return Needs {
-            profile: false,
-            live: false,
-        };
-    }
     match event {
         Event::Message(_, number, request) => {
-            let looks = hearing::looks(member, number, request);
-            Needs {
-                profile: looks,
-                live: looks & hearing::asks(request),
+            if !hearing::looks(member, number, request) {
+                Needs::Nothing
+            } else if hearing::asks(request) {
+                Needs::ProfileAndLive
+            } else {
+                Needs::Profile
             }
         }
-        Event::Tick => Needs {
-            profile: false,
-            live: false,
-        },
+        Event::Tick => Needs::Nothing,
     }
 }
 
-// Refusals 1 to 6 change nothing: the reading and the station stay.
-fn refused(route: Route, last: u64, member: Member, profile: Profile) -> Judged
-    ensures { result ≡ refused_on route last member profile }
-{
-    Judged {
-        ticks: false,
-        writes: false,
-        station: route.station,
-        place: route.place,
-        reading: last,
-        gone: 0,
-        answer: Answer::Refused(route.code),
-        member,
-        profile,
-    }
-}
-
-fn ticking(route: Route, reading: u64, member: Member, profile: Profile) -> Judged
-    ensures { result ≡ ticking_on route reading member profile }
-{
-    Judged {
-        ticks: true,
-        writes: false,
-        station: route.station,
-        place: route.place,
-        reading,
-        gone: 0,
-        answer: Answer::Ticked(0, 0),
-        member,
-        profile,
-    }
-}
-
-fn heard_as(route: Route, reading: u64, writes: bool, heard: Heard) -> Judged
-    ensures { result ≡ heard_as route reading writes heard }
-{
-    let answer = heard.answer;
-    let member = heard.member;
-    let profile = heard.profile;
-    Judged {
-        ticks: false,
-        writes,
-        station: route.station,
-        place: route.place,
-        reading,
-        gone: hearing::gone(heard.greeted, route.station),
-        answer,
-        member,
-        profile,
-    }
-}
-
-// `last` is the server's reading before; `member`, `profile` and `live` are what was looked at. They, the route and `writes` are taken
-// as the caller says: the server looks each of them up.
-pub fn judge(
-    route: Route,
-    last: u64,
-    writes: bool,
-    member: Member,
-    profile: Profile,
-    live: u64,
-    reading: u64,
-    event: Event,
-) -> Judged
-    ensures { told result ≡ told (judged_for route last writes member profile live reading event) }
-{
-    if route.code != 0 {
-        return refused(route, last, member, profile);
-    }
-    match event {
-        Event::Message(_, number, request) => {
-            let i = route.station;
-            let heard = hearing::hear(member, profile, live, reading, i, number, request);
-            heard_as(route, reading, writes, heard)
+impl Looked {
+    // A message that looks at no profile is judged on an empty one.
+    #[tactic(auto, using(crate::proofs::Ways::message_heard))]
+    fn hear(self, reading: u64, number: u32, request: Request) -> After
+        ensures { result ≡ heard_for self reading number request }
+    {
+        let Looked {
+            route,
+            member,
+            profile,
+            live,
+        } = self;
+        let seen = Seen {
+            me: route.station,
+            member,
+            profile: profile.unwrap_or_else(Profile::empty),
+            live,
+            reading,
+        };
+        let heard = seen.hear(number, request);
+        After {
+            route,
+            member: heard.member,
+            profile: profile.and(Some(heard.profile)),
+            gone: hearing::gone(heard.greeted, route.station),
+            answer: heard.answer,
         }
-        Event::Tick => ticking(route, reading, member, profile),
     }
+}
+
+// `last` is the server's reading before. What was looked at, or what refuses the event, is taken as the caller says: the server
+// looks it up.
+#[tactic(auto, unfolding(crate::specs::Judge::judged_for))]
+pub fn judge(looked: Result<Looked, Refusal>, last: u64, reading: u64, event: Event) -> Judged
+    ensures { result ≡ judged_for looked last reading event }
+{
+    let looked = match looked {
+        Ok(looked) => looked,
+        Err(refusal) => {
+            return Judged {
+                reading: last,
+                outcome: Outcome::Refused(refusal),
+            };
+        }
+    };
+    let outcome = match event {
+        Event::Message(_, number, request) => {
+            Outcome::Leaves(looked.hear(reading, number, request))
+        }
+        Event::Tick => Outcome::Ticks,
+    };
+    Judged { reading, outcome }
 }

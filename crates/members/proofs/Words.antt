@@ -1,23 +1,13 @@
 -- A mark and the word that stores it: each word is one mark, and each mark that a word can hold comes back as it was.
 -- Assumes nothing.
-use mathlib.Core.Path.{◌≡◌, refl, sym, ap, ◌∙◌}
-use mathlib.Core.Bool.{Bool, true, false, cond}
+use mathlib.Core.Path.{◌≡◌, refl, ap, ◌∙◌}
+use mathlib.Core.Bool.{Bool, false}
 use Prim.Native.Nat.{ℕ, ◌<◌}
 use native.Mathlib.Omega.{arith}
-use lib.Dec.{eqb}
-use borrow.Author.Tests.{eqb-true, ne_eqb, not-false}
-use Rattle.members.specs.Mark.{Mark, Unmarked, Demanded, Kept, Marked, none_word, kept_word, as_word, as_mark, is_marked, wipe_mark, drop_kept, demand, keep_mark, mark_test}
-use Rattle.members.specs.declared.mark.Which.{Which}
-use Rattle.members.specs.declared.mark.Which.TheVariants as which
+use Rattle.members.specs.Mark.{Mark, Unmarked, Demanded, Kept, Marked, kept_word, as_word, as_mark, is_marked, wipe_mark, drop_kept, demand, keep_mark}
 
 pub word_back : (m : Marked) → as_word (as_mark m) ≡ m
-word_back m = by_tests (eqb m.word none_word) (eqb m.word kept_word) refl refl
-  where
-    by_tests : (n k : Bool) → eqb m.word none_word ≡ n → eqb m.word kept_word ≡ k
-        → as_word (cond n Unmarked (cond k Kept (Demanded m.word))) ≡ m
-    by_tests true k p q = λ i. record { word = sym (eqb-true m.word none_word p) i }
-    by_tests false true p q = λ i. record { word = sym (eqb-true m.word kept_word q) i }
-    by_tests false false p q = refl
+word_back m = grind arith
 
 -- what an element of an array of marks reads as beyond the last
 abbrev pub beyond : Marked
@@ -45,7 +35,7 @@ stored_keep (Demanded since) s = refl
 stored_keep Kept s = refl
 
 stored_since : (now : ℕ) → now < kept_word → Stored (Demanded now)
-stored_since now h = rw (ne_eqb now none_word (λ e. omega arith), ne_eqb now kept_word (λ e. omega arith))
+stored_since now h = grind arith
 
 pub stored_demand : (now : ℕ) → now < kept_word → (k : Mark) → Stored k → Stored (demand now k)
 stored_demand now h Unmarked s = stored_since now h
@@ -54,12 +44,8 @@ stored_demand now h Kept s = stored_since now h
 
 -- the word of no mark is one alone
 pub unmarked_word : (m : Marked) → is_marked m ≡ false → m ≡ as_word Unmarked
-unmarked_word m e = λ i. record { word = eqb-true m.word none_word (not-false (eqb m.word none_word) e) i }
+unmarked_word m e = grind arith
 
--- what is not there is none of those asked for
-pub unmarked_test : (w : Which) (m : Marked) → is_marked m ≡ false → mark_test w (as_mark m) ≡ false
-unmarked_test w m e = ap (λ (m : Marked). mark_test w (as_mark m)) (unmarked_word m e) ∙ none w
-  where
-    none : (w : Which) → mark_test w Unmarked ≡ false
-    none which.Kept = refl
-    none (which.Late now answer) = refl
+-- what is not there passes no test that no mark at all fails
+pub unmarked_test : (test : Mark → Bool) → test Unmarked ≡ false → (m : Marked) → is_marked m ≡ false → test (as_mark m) ≡ false
+unmarked_test test none m e = ap (λ (m : Marked). test (as_mark m)) (unmarked_word m e) ∙ none

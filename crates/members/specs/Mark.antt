@@ -1,14 +1,10 @@
 -- The mark of a station on a profile, and what an event does to it.
-use Rattle.std.specs.Prelude.{Bool, true, false, cond, not, ◌&&◌, List, ℕ, ◌%◌, eqb}
+use Rattle.std.specs.Prelude.{Bool, true, false, cond, not, List, ℕ, eqb}
 use Rattle.masks.specs.Mask.{Set, those, change_in}
 use Rattle.timing.specs.Reading.{passed}
 pub use Rattle.members.specs.declared.mark.Mark.{Mark}
 pub use Rattle.members.specs.declared.mark.Mark.TheVariants.{Unmarked, Demanded, Kept}
 pub use Rattle.members.specs.declared.mark.Marked.{Marked}
-use Rattle.members.specs.declared.mark.Which.{Which}
-use Rattle.members.specs.declared.mark.Which.TheVariants as which
-use Rattle.members.specs.declared.mark.Change.{Change}
-use Rattle.members.specs.declared.mark.Change.TheVariants.{Wipe, DropKept, Demand, Keep}
 
 -- The two highest numbers of 64 bits stand for the marks that have no reading. Readings end far below them: 5 refuses what is above,
 -- so no event makes a mark demanded since one of the two, and only such a mark would read back as another.
@@ -33,10 +29,6 @@ no_mark = as_word Unmarked
 
 abbrev pub is_marked : Marked → Bool
 is_marked m = not (eqb m.word none_word)
-
--- under the lowest bit
-abbrev pub marked_test : ℕ → Marked → Bool
-marked_test w m = eqb (w % 2) 1 && is_marked m
 
 abbrev pub is_kept : Mark → Bool
 is_kept Unmarked = false
@@ -78,14 +70,3 @@ remark f m = as_word (f (as_mark m))
 
 abbrev pub marks_changed : (Mark → Mark) → Set → List Marked → List Marked
 marks_changed f stations marks = change_in (remark f) stations marks
-
--- which marks the code asks for, and what it does to them, told apart by a value
-abbrev pub mark_test : Which → Mark → Bool
-mark_test which.Kept mark = is_kept mark
-mark_test (which.Late now answer) mark = is_late answer now mark
-
-abbrev pub mark_change : Change → Mark → Mark
-mark_change Wipe mark = wipe_mark mark
-mark_change DropKept mark = drop_kept mark
-mark_change (Demand now) mark = demand now mark
-mark_change Keep mark = keep_mark mark

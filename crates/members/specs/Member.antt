@@ -5,8 +5,6 @@ use Rattle.timing.specs.Reading.{passed}
 pub use Rattle.members.specs.declared.member.Status.{Status}
 pub use Rattle.members.specs.declared.member.Status.TheVariants.{Unknown, Live, TimingOut}
 pub use Rattle.members.specs.declared.member.Member.{Member}
-use Rattle.members.specs.declared.member.Which.{Which}
-use Rattle.members.specs.declared.member.Which.TheVariants as which
 
 -- "A station is unknown (at the start)"; "last numbers and readings start at 0"
 abbrev pub nobody : Member
@@ -28,11 +26,6 @@ members_with test members = those (λ (m : Member). test m.status) members
 
 abbrev pub live_set : List Member → Set
 live_set members = members_with is_live members
-
--- which stations the code asks for, told apart by a value
-abbrev pub status_test : Which → Status → Bool
-status_test which.Live status = is_live status
-status_test (which.Waited now wait) status = is_waited wait now status
 
 abbrev pub restatus : Status → Member → Member
 restatus status m = record { status = status; last = m.last }

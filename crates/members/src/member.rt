@@ -1,12 +1,11 @@
 // What the server knows of a station: whether it is live, and the number of its last message.
 ghost use Rattle.std.specs.Prelude.{◌≡◌};
-ghost use Rattle.masks.specs.Mask.{lowest};
-ghost use Rattle.members.specs.Member.{restatus, status_test};
+ghost use Rattle.members.specs.Member.{is_live, is_waited, restatus};
 
 use timing::reading::Reading;
 use timing::settings::Settings;
 
-#[derive(Clone, Copy)]
+#[derive(Clone, Copy, Debug, PartialEq, Eq)]
 pub enum Status {
     Unknown,
     Live,
@@ -14,7 +13,7 @@ pub enum Status {
     TimingOut(u64),
 }
 
-#[derive(Clone, Copy)]
+#[derive(Clone, Copy, Debug, PartialEq, Eq)]
 pub struct Member {
     pub status: Status,
     pub last: u32,
@@ -23,40 +22,29 @@ pub struct Member {
 // One for each station.
 pub type Members = [Member; Settings::STATIONS];
 
-// Which stations are asked for: the live ones, or those timing out for `wait` or more ticks at the reading `now`.
-#[derive(Clone, Copy)]
-pub enum Which {
-    Live,
-    Waited { now: u64, wait: u64 },
-}
+impl Member {
+    pub fn is_live(self) -> bool
+        ensures { result ≡ is_live self.status }
+    {
+        matches!(self.status, Status::Live)
+    }
 
-pub fn is_one(member: Member, which: Which) -> bool
-    ensures { result ≡ status_test which member.status }
-{
-    let status = member.status;
-    match which {
-        Which::Live => match status {
-            Status::Unknown => false,
-            Status::Live => true,
-            Status::TimingOut(_) => false,
-        },
-        Which::Waited { now, wait } => match status {
-            Status::Unknown => false,
-            Status::Live => false,
+    // Whether it has been timing out for `wait` or more ticks at the reading `now`.
+    pub fn waited(self, now: u64, wait: u64) -> bool
+        ensures { result ≡ is_waited wait now self.status }
+    {
+        match self.status {
             Status::TimingOut(since) => Reading::passed(since, wait, now),
-        },
+            _ => false,
+        }
     }
-}
 
-// A new status, under the lowest bit.
-pub fn turned(member: Member, w: u64, status: Status) -> Member
-    ensures { result ≡ lowest (restatus status) w member }
-{
-    if w % 2 == 1 {
-        return Member {
+    pub fn with_status(self, status: Status) -> Member
+        ensures { result ≡ restatus status self }
+    {
+        Member {
             status,
-            last: member.last,
-        };
+            last: self.last,
+        }
     }
-    member
 }

@@ -4,28 +4,39 @@ use mathlib.Core.Path.{◌≡◌, refl, sym, ◌∙◌}
 use mathlib.Core.Bool.{Bool, true, false, ◌||◌, not, beq}
 use mathlib.Core.List.{List, [], ◌∷◌}
 use Prim.Native.Nat.{ℕ, zero, suc, ◌-◌, ◌<◌, ◌≤◌}
+use Rattle.std.proofs.Common.{Some, None}
 use lib.Dec.{eqb, leb, ltb}
 use lib.ListN.{get_or}
 use native.Mathlib.Omega.{arith}
 use borrow.Author.Tests.{le-leb, lt-leb, lt-ltb, leb-false, eqb-true, not-true}
-use Rattle.modes.specs.Modes.{as_mode, among, writes, goes, over, is_least, first_of, zero_to_x, goes_with, covers, join}
-use Rattle.modes.specs.Place.{place_in, place_of}
+use Rattle.modes.specs.Modes.{as_mode, among, writes, goes, over, is_least, first_of, zero_to_x, goes_with, covers, join, is_mode}
+use Rattle.modes.specs.Place.{place_in, place_of, place_at}
 use Rattle.modes.proofs.Range.{every2, same, implied}
 use Rattle.modes.proofs.Laws.{all1, all2}
 
 -- the place that the code works out is the mode's
-pub place_none : (m : ℕ) → m ≡ 0 → 6 ≡ place_of m
-unfolding place_of
-place_none m e = rw e
+pub place_none : (m : ℕ) → false ≡ is_mode m → None ≡ place_at m
+unfolding place_of is_mode
+place_none m e = grind arith
+
+pub place_mode : (m : ℕ) → true ≡ is_mode m → Some (m - 1) ≡ place_at m
+unfolding place_of is_mode
+place_mode zero e = grind arith
+place_mode (suc m) e = grind arith
 
 pub place_above : (m : ℕ) → 6 < m → 6 ≡ place_of m
 unfolding place_of
 place_above m h = simp (lt-leb m 6 h)
 
-pub place_mode : (m : ℕ) → (m ≡ 0 → ⊥) → m ≤ 6 → m - 1 ≡ place_of m
-unfolding place_of
-place_mode zero n h = absurd (n refl)
-place_mode (suc m) n h = simp (le-leb (suc m) 6 h) (omega arith)
+-- what a place that the code found, or found none, tells
+pub absent : (m : ℕ) → place_at m ≡ None → 6 ≤ place_of m
+absent m e = grind arith
+
+pub present : (m i : ℕ) → place_at m ≡ Some i → (i ≡ place_of m) × (i < 6)
+present m i e = (grind arith, grind arith)
+
+within : (m i : ℕ) → place_at m ≡ Some i → place_of m < 6
+within m i e = let p = present m i e in omega arith
 
 -- a place in the tables is that of a number up to 6
 pub known : (a : ℕ) → place_of a < 6 → as_mode a ≡ a
@@ -49,65 +60,65 @@ module _ {A : Type 0} (d : A) where
   agrees eq t g a b =
       not (ltb (place_in a) 6) || (not (ltb (place_in b) 6) || eq (get_or (get_or t (place_in a) []) (place_in b) d) (g a b))
 
-  pub looked : (eq : A → A → Bool) → ((x y : A) → eq x y ≡ true → x ≡ y) → (t : List (List A)) (g : ℕ → ℕ → A) (a b i j : ℕ) → i ≡ place_of a → j ≡ place_of b → i < 6 → j < 6 → every2 7 (agrees eq t g) ≡ true → cell t i j ≡ g (as_mode a) (as_mode b)
+  pub looked : (eq : A → A → Bool) → ((x y : A) → eq x y ≡ true → x ≡ y) → (t : List (List A)) (g : ℕ → ℕ → A) (a b i j : ℕ) → place_at a ≡ Some i → place_at b ≡ Some j → every2 7 (agrees eq t g) ≡ true → cell t i j ≡ g (as_mode a) (as_mode b)
   unfolding cell place_of
-  looked eq sound t g a b i j pi pj hi hj e =
-      rw (pi, pj)
+  looked eq sound t g a b i j ei ej e =
+      rw ((present a i ei).0, (present b j ej).0)
       (sound _ _
       (implied _ _
-      (implied _ _ (all2 (agrees eq t g) e a b) (lt-ltb (place_of a) 6 (omega arith)))
-      (lt-ltb (place_of b) 6 (omega arith))))
+      (implied _ _ (all2 (agrees eq t g) e a b) (lt-ltb (place_of a) 6 (within a i ei)))
+      (lt-ltb (place_of b) 6 (within b j ej))))
 
--- a mode's place is past the end exactly where it is no lock
-module _ (a b i j : ℕ) (pi : i ≡ place_of a) (pj : j ≡ place_of b) where
-  pub goes_first : 6 ≤ i → true ≡ goes_with a b
+-- where one of the two is no mode, or both are
+module _ (a b : ℕ) where
+  pub goes_first : place_at a ≡ None → true ≡ goes_with a b
   unfolding goes_with place_of
   goes_first h =
-      sym (implied _ _ (all2 (λ (a b : ℕ). not (leb 6 (place_in a)) || goes a b) refl a b) (le-leb 6 (place_of a) (omega arith)))
+      sym (implied _ _ (all2 (λ (a b : ℕ). not (leb 6 (place_in a)) || goes a b) refl a b) (le-leb 6 (place_of a) (absent a h)))
 
-  pub goes_second : 6 ≤ j → true ≡ goes_with a b
+  pub goes_second : place_at b ≡ None → true ≡ goes_with a b
   unfolding goes_with place_of
   goes_second h =
-      sym (implied _ _ (all2 (λ (a b : ℕ). not (leb 6 (place_in b)) || goes a b) refl a b) (le-leb 6 (place_of b) (omega arith)))
+      sym (implied _ _ (all2 (λ (a b : ℕ). not (leb 6 (place_in b)) || goes a b) refl a b) (le-leb 6 (place_of b) (absent b h)))
 
-  pub covers_second : 6 ≤ j → true ≡ covers a b
+  pub covers_second : place_at b ≡ None → true ≡ covers a b
   unfolding covers place_of
   covers_second h =
-      sym (implied _ _ (all2 (λ (a b : ℕ). not (leb 6 (place_in b)) || over a b) refl a b) (le-leb 6 (place_of b) (omega arith)))
+      sym (implied _ _ (all2 (λ (a b : ℕ). not (leb 6 (place_in b)) || over a b) refl a b) (le-leb 6 (place_of b) (absent b h)))
 
-  pub covers_first : j < 6 → 6 ≤ i → false ≡ covers a b
+  pub covers_first : (j : ℕ) → place_at b ≡ Some j → place_at a ≡ None → false ≡ covers a b
   unfolding covers place_of
-  covers_first k h =
+  covers_first j k h =
       sym (not-true _
       (implied _ _
-      (implied _ _ (all2 (λ (a b : ℕ). not (ltb (place_in b) 6) || (not (leb 6 (place_in a)) || not (over a b))) refl a b) (lt-ltb (place_of b) 6 (omega arith)))
-      (le-leb 6 (place_of a) (omega arith))))
+      (implied _ _ (all2 (λ (a b : ℕ). not (ltb (place_in b) 6) || (not (leb 6 (place_in a)) || not (over a b))) refl a b) (lt-ltb (place_of b) 6 (within b j k)))
+      (le-leb 6 (place_of a) (absent a h))))
 
-  pub join_second : i < 6 → 6 ≤ j → a ≡ join a b
+  pub join_second : (i : ℕ) → place_at a ≡ Some i → place_at b ≡ None → a ≡ join a b
   unfolding join place_of
-  join_second k h =
-      sym (known a (omega arith))
+  join_second i k h =
+      sym (known a (within a i k))
       ∙ eqb-true _ _
       (implied _ _
-      (implied _ _ (all2 (λ (a b : ℕ). not (ltb (place_in a) 6) || (not (leb 6 (place_in b)) || eqb a (first_of (is_least a b) zero_to_x))) refl a b) (lt-ltb (place_of a) 6 (omega arith)))
-      (le-leb 6 (place_of b) (omega arith)))
+      (implied _ _ (all2 (λ (a b : ℕ). not (ltb (place_in a) 6) || (not (leb 6 (place_in b)) || eqb a (first_of (is_least a b) zero_to_x))) refl a b) (lt-ltb (place_of a) 6 (within a i k)))
+      (le-leb 6 (place_of b) (absent b h)))
 
-  pub join_first : 6 ≤ i → j < 6 → b ≡ join a b
+  pub join_first : (j : ℕ) → place_at a ≡ None → place_at b ≡ Some j → b ≡ join a b
   unfolding join place_of
-  join_first h k =
-      sym (known b (omega arith))
+  join_first j h k =
+      sym (known b (within b j k))
       ∙ eqb-true _ _
       (implied _ _
-      (implied _ _ (all2 (λ (a b : ℕ). not (leb 6 (place_in a)) || (not (ltb (place_in b) 6) || eqb b (first_of (is_least a b) zero_to_x))) refl a b) (le-leb 6 (place_of a) (omega arith)))
-      (lt-ltb (place_of b) 6 (omega arith)))
+      (implied _ _ (all2 (λ (a b : ℕ). not (leb 6 (place_in a)) || (not (ltb (place_in b) 6) || eqb b (first_of (is_least a b) zero_to_x))) refl a b) (le-leb 6 (place_of a) (absent a h)))
+      (lt-ltb (place_of b) 6 (within b j k)))
 
-  pub join_none : 6 ≤ i → 6 ≤ j → 0 ≡ join a b
+  pub join_none : place_at a ≡ None → place_at b ≡ None → 0 ≡ join a b
   unfolding join place_of
   join_none h k =
       eqb-true _ _
       (implied _ _
-      (implied _ _ (all2 (λ (a b : ℕ). not (leb 6 (place_in a)) || (not (leb 6 (place_in b)) || eqb 0 (first_of (is_least a b) zero_to_x))) refl a b) (le-leb 6 (place_of a) (omega arith)))
-      (le-leb 6 (place_of b) (omega arith)))
+      (implied _ _ (all2 (λ (a b : ℕ). not (leb 6 (place_in a)) || (not (leb 6 (place_in b)) || eqb 0 (first_of (is_least a b) zero_to_x))) refl a b) (le-leb 6 (place_of a) (absent a h)))
+      (le-leb 6 (place_of b) (absent b k)))
 
 -- W, U and X are the modes that cover W
 pub writing : (a : ℕ) → covers a 4 ≡ writes a

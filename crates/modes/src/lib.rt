@@ -3,10 +3,11 @@
 
 ghost use Rattle.std.specs.Prelude.{◌≡◌};
 ghost use Rattle.modes.specs.Modes.{as_mode, is_mode, goes_with, covers, join, writes, mode};
-ghost use Rattle.modes.specs.Place.{place_of};
+ghost use Rattle.modes.specs.Place.{place_at};
 
 // A mode by its number in the paper. A number above 6 counts as no lock everywhere.
-#[derive(Clone, Copy)]
+// Kept: a number and no enum, since an event may name a mode above 6, which `Server::step` and `Station::step` refuse by 4.
+#[derive(Clone, Copy, Debug, PartialEq, Eq)]
 pub struct Mode(pub u8);
 
 impl Mode {
@@ -24,7 +25,7 @@ impl Mode {
 
     pub const X: Mode = Mode(6);
 
-    // How many modes there are: what is no mode has this place in the tables, past their end.
+    // How many modes there are.
     pub const COUNT: usize = 6;
 
     // Rows and columns of the three tables are in the order M R S W U X.
@@ -46,6 +47,7 @@ impl Mode {
         [true, true, true, true, true, true], // X covers all six
     ];
 
+    // Kept: by their numbers, so that the table reads as one; `join` makes modes of them.
     const JOINED: [[u8; Mode::COUNT]; Mode::COUNT] = [
         [1, 2, 3, 4, 5, 6],
         [2, 2, 3, 4, 5, 6],
@@ -55,78 +57,57 @@ impl Mode {
         [6, 6, 6, 6, 6, 6],
     ];
 
-    // The mode of a number; what is not 1 to 6 is no lock.
-    pub fn of(number: u8) -> Mode
-        ensures { result ≡ mode (as_mode number) }
-    {
-        match number {
-            1 => Mode::M,
-            2 => Mode::R,
-            3 => Mode::S,
-            4 => Mode::W,
-            5 => Mode::U,
-            6 => Mode::X,
-            _ => Mode::NONE,
-        }
-    }
-
     // Whether it is one of the six, and not 'no lock'.
+    #[tactic(auto, unfolding(crate::specs::Modes::is_mode))]
     pub fn is_mode(self) -> bool
         ensures { result ≡ is_mode self.0 }
     {
-        let number = self.0;
-        if number == 0 {
-            return false;
+        1 <= self.0 && self.0 <= Mode::COUNT as u8
+    }
+
+    // Its row and column in the tables, none for what is no mode.
+    #[tactic(auto, using(crate::proofs::Lookup::place_none, crate::proofs::Lookup::place_mode), unfolding(crate::specs::Modes::is_mode))]
+    fn place(self) -> Option<usize>
+        ensures { result ≡ place_at self.0 }
+    {
+        if self.is_mode() {
+            Some(self.0 as usize - 1)
+        } else {
+            None
         }
-        number as usize <= Mode::COUNT
     }
 
     // Whether two stations may hold these modes on one profile.
     pub fn goes_with(self, other: Mode) -> bool
         ensures { result ≡ goes_with self.0 other.0 }
     {
-        let i = place(self.0);
-        let j = place(other.0);
-        if i >= Mode::COUNT {
-            return true;
+        match (self.place(), other.place()) {
+            (Some(i), Some(j)) => Mode::COMPATIBLE[i][j],
+            _ => true,
         }
-        if j >= Mode::COUNT {
-            return true;
-        }
-        Mode::COMPATIBLE[i][j]
     }
 
     // Whether what may be done under the other mode may be done under this one.
     pub fn covers(self, other: Mode) -> bool
         ensures { result ≡ covers self.0 other.0 }
     {
-        let i = place(self.0);
-        let j = place(other.0);
-        if j >= Mode::COUNT {
-            return true;
+        match (self.place(), other.place()) {
+            (Some(i), Some(j)) => Mode::COVER[i][j],
+            (_, None) => true,
+            (None, Some(_)) => false,
         }
-        if i >= Mode::COUNT {
-            return false;
-        }
-        Mode::COVER[i][j]
     }
 
     // The least mode that covers both.
     pub fn join(self, other: Mode) -> Mode
         ensures { result ≡ mode (join self.0 other.0) }
     {
-        let i = place(self.0);
-        let j = place(other.0);
-        if i < Mode::COUNT {
-            if j < Mode::COUNT {
-                return Mode(Mode::JOINED[i][j]);
-            }
-            return self;
+        match (self.place(), other.place()) {
+            (Some(i), Some(j)) => Mode(Mode::JOINED[i][j]),
+            (Some(_), None) => self,
+            (None, Some(_)) => other,
+            (None, None) => Mode::NONE,
         }
-        if j < Mode::COUNT {
-            return other;
-        }
-        Mode::NONE
     }
 
     // Whether a profile may be edited and written out under it: W, U and X are the modes that cover W.
@@ -137,15 +118,19 @@ impl Mode {
     }
 }
 
-// A mode's row and column in the tables, or their end for what is no mode.
-fn place(m: u8) -> usize
-    ensures { result ≡ place_of m }
-{
-    if m == 0 {
-        return Mode::COUNT;
+// The mode of a number; what is not 1 to 6 is no lock.
+impl From<u8> for Mode {
+    ghost from_gives = { λ number result. result ≡ mode (as_mode number) };
+
+    fn from(number: u8) -> Mode {
+        match number {
+            1 => Mode::M,
+            2 => Mode::R,
+            3 => Mode::S,
+            4 => Mode::W,
+            5 => Mode::U,
+            6 => Mode::X,
+            _ => Mode::NONE,
+        }
     }
-    if m as usize > Mode::COUNT {
-        return Mode::COUNT;
-    }
-    m as usize - 1
 }

@@ -8,30 +8,23 @@ use mathlib.Core.Logic.{◌⊎◌, inl, inr}
 use Prim.Native.Nat.{ℕ, zero, suc, ◌<◌}
 use native.Mathlib.Nat.{le_refl}
 use native.Mathlib.Omega.{arith}
+use Rattle.std.proofs.Common.{Some, Err}
 use borrow.Author.Tests.{ne_eqb}
+use Rattle.refusals.specs.declared.Refusal.{Refusal}
 use Rattle.record.specs.declared.message.Message.{Message}
 use Rattle.modes.specs.Modes.{mode, covers}
 use Rattle.modes.proofs.Laws.{covers_none, covers_trans, join_left}
 use Rattle.timing.specs.declared.settings.Settings.{Settings}
 use Rattle.timing.specs.Settings.{lease}
-use Rattle.members.specs.declared.member.Status.{Status}
-use Rattle.members.specs.declared.member.Status.TheVariants.{Live}
-use Rattle.members.specs.declared.mark.Mark.{Mark}
+use Rattle.server.specs.State.{Status, Live, Mark, status_of, last_of, mode_of}
 use Rattle.server.specs.declared.server.Server.{Server}
 use Rattle.server.specs.declared.server.Served.{Served}
-use Rattle.requests.specs.declared.Request.{Request}
-use Rattle.requests.specs.declared.Request.TheVariants.{Hello, KeepAlive, Ask, Release, Keep}
-use Rattle.judging.specs.declared.event.Event.{Event}
-use Rattle.judging.specs.declared.event.Event.TheVariants.{Message as Said, Tick}
-use Rattle.profiles.specs.declared.answer.Answer.{Answer}
-use Rattle.profiles.specs.declared.answer.Answer.TheVariants.{Done, Granted}
-use Rattle.server.specs.State.{status_of, last_of, mode_of}
+use Rattle.server.specs.Event.{Request, Hello, KeepAlive, Ask, Release, Keep, Event, Message as Said, Tick, Answer, Done, Granted}
 use Rattle.judging.specs.Refusal.{refusal}
 use Rattle.requests.specs.Request.{asked_as, request_of}
 use Rattle.server.specs.Step.{step}
-use Rattle.server.specs.declared.border.Meant.TheVariants.{For}
 use Rattle.server.specs.Border.{sent_for, meant_by, event_of}
-use Rattle.server.proofs.Serves.{Accepted, at, changed_at, all_of, own, no_lock, Serves, at_same, at_other, changed_here, changed_other, own_here, own_so, own_other}
+use Rattle.server.proofs.Serves.{Accepted, at, changed_at, all_of, own, no_lock, Serves, Told, at_same, at_other, changed_here, changed_other, own_here, own_so, own_other}
 use Rattle.server.proofs.InTheWay.{wanted_on}
 use Rattle.server.proofs.Events.{refused, stale, nack_0, nack_1, hello, keep_alive, release, keep, ask_granted, ask_in_use, ask_wait}
 use Rattle.server.proofs.Cases.{Case, case_of}
@@ -166,51 +159,46 @@ module _ (z : Settings) (w : World) (h : List Moment) (cs : ℕ → ℕ) (I : So
       Pairs (step wait s now (Said i k q)) (sent_for i k (step wait s now (Said i k q)).answer)
   Kept Tick = Unit {0}
 
-  on_refused : (e : Event) (n : ℕ) → refusal s.settings s.reading now e ≡ suc n → Kept e
+  on_refused : (e : Event) (r : Refusal) → refusal s.settings s.reading now e ≡ Err r → Kept e
   unfolding sent_for
-  on_refused (Said i k q) n e =
-      λ m up number means. subst (λ (r : Served). Pairs r (sent_for i k r.answer)) (sym (refused wait s now (Said i k q) n e)) I.pair
-  on_refused Tick n e = tt
+  on_refused (Said i k q) r e =
+      λ m up number means. subst (λ (t : Served). Pairs t (sent_for i k t.answer)) (sym (refused wait s now (Said i k q) r e)) I.pair
+  on_refused Tick r e = tt
 
   inside : (i k : ℕ) (q : Request) → Accepted s now (Said i k q) → i < z.stations
   inside i k q a = (below z wait s now I.server i k q a).0
 
+  -- a message whose answer leaves statuses and modes
+  stays : (i k : ℕ) (q : Request) {r : Answer} {ν : ℕ → ℕ → Mark} → Accepted s now (Said i k q) → last_of s i < k →
+      Sure r (status_of s i) (mode_of s i) → Told wait s now i k q r (status_of s) (mode_of s) ν → Kept (Said i k q)
+  stays i k q a new sure law m up number means =
+      let b = inside i k q a in
+      takes i k m up number b new law (quiet i k m up number b new sure)
+
   on_case : {e : Event} → Case s now e → Kept e
   unfolding sent_for
-  on_case {e} (Case.refused n r) = on_refused e n r
+  on_case {e} (Case.refused r h) = on_refused e r h
   on_case (Case.ticks a) = tt
   on_case (Case.stale {i} {k} {q} a old) =
       λ m up number means. subst (λ (r : Served). Pairs r (sent_for i k r.answer)) (sym (stale wait s now i k I.server.lengths q a old)) I.pair
-  on_case (Case.nack_0 {i} {k} {q} a new since e) =
-      λ m up number means. let b = inside i k q a in
-      takes i k m up number b new (nack_0 wait s now i k I.server.lengths q a new since e) (quiet i k m up number b new tt)
-  on_case (Case.nack_1 {i} {k} {q} a new other e) =
-      λ m up number means. let b = inside i k q a in
-      takes i k m up number b new (nack_1 wait s now i k I.server.lengths q a new other e) (quiet i k m up number b new tt)
+  on_case (Case.nack_0 {i} {k} {q} a new since e) = stays i k q a new tt (nack_0 wait s now i k I.server.lengths q a new since e)
+  on_case (Case.nack_1 {i} {k} {q} a new other e) = stays i k q a new tt (nack_1 wait s now i k I.server.lengths q a new other e)
   on_case (Case.hello {i} {k} a new settled) =
       λ m up number means. let b = inside i k Hello a in
       takes i k m up number b new (hello wait s now i k I.server.lengths new a settled) (greeted i k m up number b new means)
-  on_case (Case.keep_alive {i} {k} a new live) =
-      λ m up number means. let b = inside i k KeepAlive a in
-      takes i k m up number b new (keep_alive wait s now i k I.server.lengths new live a) (quiet i k m up number b new live)
+  on_case (Case.keep_alive {i} {k} a new live) = stays i k KeepAlive a new live (keep_alive wait s now i k I.server.lengths new live a)
   on_case (Case.release {i} {k} {p} a new live) =
       λ m up number means. let b = inside i k (Release p) a in
       takes i k m up number b new (release wait s now i k I.server.lengths new live p a) (released i k m up number b new p means.0 means.1 live)
-  on_case (Case.keep {i} {k} {p} a new live) =
-      λ m up number means. let b = inside i k (Keep p) a in
-      takes i k m up number b new (keep wait s now i k I.server.lengths new live p a) (quiet i k m up number b new live)
+  on_case (Case.keep {i} {k} {p} a new live) = stays i k (Keep p) a new live (keep wait s now i k I.server.lengths new live p a)
   on_case (Case.ask_granted {i} {k} {p} {asked} a new live free) =
       λ m up number means. let b = inside i k (Ask p asked) a in
       takes i k m up number b new (ask_granted wait s now i k I.server.lengths new live p asked a free) (given i k m up number b new p asked.0 live)
-  on_case (Case.ask_in_use {i} {k} {p} {asked} a new live kept) =
-      λ m up number means. let b = inside i k (Ask p asked) a in
-      takes i k m up number b new (ask_in_use wait s now i k I.server.lengths new live p asked a kept) (quiet i k m up number b new live)
-  on_case (Case.ask_wait {i} {k} {p} {asked} a new live held kept) =
-      λ m up number means. let b = inside i k (Ask p asked) a in
-      takes i k m up number b new (ask_wait wait s now i k I.server.lengths new live p asked a held kept) (quiet i k m up number b new live)
+  on_case (Case.ask_in_use {i} {k} {p} {asked} a new live kept) = stays i k (Ask p asked) a new live (ask_in_use wait s now i k I.server.lengths new live p asked a kept)
+  on_case (Case.ask_wait {i} {k} {p} {asked} a new live held kept) = stays i k (Ask p asked) a new live (ask_wait wait s now i k I.server.lengths new live p asked a held kept)
 
   module _ (m : Message) (sent : Memᴰ m w.up) where
-    on_request : (q : Request) → Means m q → Sound z (hearing wait w now m (For (Said m.station m.number q))) h cs
+    on_request : (q : Request) → Means m q → Sound z (hearing wait w now m (Some (Said m.station m.number q))) h cs
     on_request q means =
         let e = Said m.station m.number q in
         record {

@@ -8,6 +8,7 @@ use mathlib.Core.Logic.{◌⊎◌, inl, inr}
 use Prim.Native.Nat.{ℕ, zero, suc, ◌+◌, ◌-◌, ◌*◌, ◌<◌, ◌≤◌, zero-le}
 use native.Mathlib.Omega.{arith}
 use native.Mathlib.Nat.{le_refl, mul-le-mul_right}
+use Rattle.std.proofs.Common.{Option, Some, None, Ok}
 use borrow.Author.Tests.{lt-ltb, le-leb, lt-leb, eq-eqb, ne_eqb}
 use lib.Dec.{lit<}
 use lib.ListN.{replicate}
@@ -21,14 +22,10 @@ use Rattle.timing.proofs.Ranges.{Ranges, ranges}
 use Rattle.timing.proofs.Wait.{wait_sharp, wait_above_lease, wait_small}
 use Rattle.server.specs.declared.server.Server.{Server}
 use Rattle.server.specs.declared.server.Served.{Served}
-use Rattle.members.specs.declared.member.Status.{Status}
-use Rattle.members.specs.declared.member.Status.TheVariants.{Unknown, Live, TimingOut}
-use Rattle.members.specs.declared.mark.Mark.{Mark}
-use Rattle.members.specs.declared.mark.Mark.TheVariants.{Unmarked, Demanded}
+use Rattle.server.specs.State.{Status, Unknown, Live, TimingOut, Mark, Unmarked, Demanded, nobody, no_mark, empty_profile, new_server}
 use Rattle.judging.specs.declared.event.Event.TheVariants as server
-use Rattle.profiles.specs.declared.answer.Answer.{Answer as ServerAnswer}
+use Rattle.server.specs.Event.{Answer as ServerAnswer}
 use Rattle.profiles.specs.declared.answer.Answer.TheVariants as says
-use Rattle.server.specs.State.{nobody, no_mark, empty_profile, new_server}
 use Rattle.members.specs.Mark.{as_word}
 use Rattle.profiles.specs.Sets.{wiped, conflicts}
 use Rattle.profiles.specs.Ask.{ask_rule}
@@ -40,19 +37,8 @@ use Rattle.server.specs.Border.{sent_for}
 use Rattle.server.proofs.Sent.{heard_back_lem}
 use Rattle.record.specs.Message.{message}
 use Rattle.station.specs.declared.station.Station.{Station}
-use Rattle.holds.specs.declared.hold.Hold.{Hold}
-use Rattle.holds.specs.declared.stage.Standing.{Standing}
-use Rattle.holds.specs.declared.stage.Standing.TheVariants.{Out, Open}
-use Rattle.requests.specs.declared.Request.{Request}
-use Rattle.requests.specs.declared.Request.TheVariants.{Hello, KeepAlive, Ask}
-use Rattle.room.specs.declared.event.Waiting.{Waiting}
-use Rattle.room.specs.declared.event.Waiting.TheVariants.{Nothing, Sent}
-use Rattle.room.specs.declared.event.Ack.{Ack}
-use Rattle.room.specs.declared.event.Ack.TheVariants.{Done, Granted}
-use Rattle.room.specs.declared.event.Event.TheVariants.{Send, Restart, Ack as Acked}
+use Rattle.station.specs.Event.{Request, Hello, KeepAlive, Ask, Sent, Ack, Done, Granted, Send, Restart, Acked, Hold, Standing, Out, Open}
 use Rattle.station.specs.declared.event.Answer.TheVariants as answer
-use Rattle.station.specs.declared.event.UseAnswer.TheVariants.{Yes}
-use Rattle.station.specs.declared.border.Meant.TheVariants as to_room
 use Rattle.holds.specs.Hold.{no_hold, no_holds}
 use Rattle.requests.specs.Request.{request_refusal, message_of}
 use Rattle.room.specs.Refusal.{ack_refusal}
@@ -97,7 +83,11 @@ module _ (z : Settings) (good : in_range z ≡ true) (two : 2 ≤ z.stations) (w
   abbrev hs : ℕ → List Hold
   hs x = record { mode = mode x; started = 0; unwritten = false } ∷ replicate 63 no_hold
 
-  abbrev rm : ℕ → ℕ → Standing → ℕ → ℕ → Waiting → ℕ → Station
+  -- what was asked waits since t
+  abbrev waits : Request → ℕ → Option Sent
+  waits q t = Some (record { request = q; at = t })
+
+  abbrev rm : ℕ → ℕ → Standing → ℕ → ℕ → Option Sent → ℕ → Station
   rm own c σ start last wt x =
       record { settings = z; number = own; standing = σ; start = start; last = last; reading = c; waiting = wt; holds = hs x }
 
@@ -110,7 +100,7 @@ module _ (z : Settings) (good : in_range z ≡ true) (two : 2 ≤ z.stations) (w
   unfolding new_server
   first_server = refl
 
-  first_room : (i : ℕ) → new_station z i ≡ rm i 0 Out 0 0 Nothing 0
+  first_room : (i : ℕ) → new_station z i ≡ rm i 0 Out 0 0 None 0
   unfolding new_station no_holds
   first_room i = refl
 
@@ -127,44 +117,39 @@ module _ (z : Settings) (good : in_range z ≡ true) (two : 2 ≤ z.stations) (w
   -- the three exchanges of the story: what is said, what is answered, and the mode on profile 0 before and after
   record Exchange (q : Request) (a : Ack) (A : ServerAnswer) (x x' : ℕ) : Type 0 where
     back : ℕ → ℕ → Message
-    named : request_refusal z.profiles q ≡ 0
+    named : request_refusal z.profiles q ≡ Ok tt
     same : (l : List Hold) → holds_sent l q ≡ l
     sent : (i k : ℕ) → sent_by i (answer.Sent k q) ≡ message_of i k q ∷ []
     answered : (i k : ℕ) → sent_for (message_of i k q).station (message_of i k q).number A ≡ back i k ∷ []
-    told : (i k : ℕ) → room_event (back i k) ≡ to_room.For (Acked i k a)
-    named_back : ack_refusal z.profiles a ≡ 0
-    fitting : (i c start k : ℕ) (σ : Standing) (wt : Waiting) → fits q (mode_of (rm i c σ start k wt x) (ack_profile a)) a ≡ true
+    told : (i k : ℕ) → room_event (back i k) ≡ Some (Acked i k a)
+    named_back : ack_refusal z.profiles a ≡ Ok tt
+    fitting : (i c start k : ℕ) (σ : Standing) (wt : Option Sent) → fits q (mode_of (rm i c σ start k wt x) (ack_profile a)) a ≡ true
     gained : holds_acked (hs x) a ≡ hs x'
 
-  hello : (x : ℕ) → Exchange Hello Done says.Done x x
-  unfolding message_of sent_for room_event fits sent_by
-  hello x =
+  -- two of them name no profile, and are done
+  done : (q : Request) → request_refusal z.profiles q ≡ Ok tt → ((l : List Hold) → holds_sent l q ≡ l) → ((m : ℕ) → fits q m Done ≡ true) →
+      (x : ℕ) → Exchange q Done says.Done x x
+  unfolding message_of sent_for room_event sent_by
+  done q named same fitting x =
       record {
         back = λ i k. message 6 i k 255 0 0;
-        named = refl;
-        same = λ l. refl;
+        named = named;
+        same = same;
         sent = λ i k. refl;
         answered = λ i k. refl;
         told = λ i k. refl;
         named_back = refl;
-        fitting = λ i c start k σ wt. refl;
+        fitting = λ i c start k σ wt. fitting (mode_of (rm i c σ start k wt x) 0);
         gained = refl;
       }
 
+  hello : (x : ℕ) → Exchange Hello Done says.Done x x
+  unfolding fits
+  hello = done Hello refl (λ l. refl) (λ m. refl)
+
   alive : (x : ℕ) → Exchange KeepAlive Done says.Done x x
-  unfolding message_of sent_for room_event fits sent_by
-  alive x =
-      record {
-        back = λ i k. message 6 i k 255 0 0;
-        named = refl;
-        same = λ l. refl;
-        sent = λ i k. refl;
-        answered = λ i k. refl;
-        told = λ i k. refl;
-        named_back = refl;
-        fitting = λ i c start k σ wt. refl;
-        gained = refl;
-      }
+  unfolding fits
+  alive = done KeepAlive refl (λ l. refl) (λ m. refl)
 
   ask : Exchange (Ask 0 (mode X)) (Granted 0 (mode X)) (says.Granted 0 (mode X)) 0 X
   unfolding message_of sent_for room_event fits sent_by is_mode covers
@@ -182,26 +167,26 @@ module _ (z : Settings) (good : in_range z ≡ true) (two : 2 ≤ z.stations) (w
       }
 
   -- a room sends
-  sends : (i c₀ : ℕ) (σ : Standing) (start last : ℕ) (wt : Waiting) (x now : ℕ) (q : Request) → i < z.stations → now ≤ reading_limit → c₀ ≤ now →
-      request_refusal z.profiles q ≡ 0 → ((l : List Hold) → holds_sent l q ≡ l) →
-      is_over (rm i c₀ σ start last wt x) now ≡ false → forbids (rm i now σ start last wt x) (Send q) ≡ 0 →
-      room_step (rm i c₀ σ start last wt x) now (Send q) ≡ stepped (rm i now σ start (last + 1) (Sent q now) x) (answer.Sent (last + 1) q) 0 0
+  sends : (i c₀ : ℕ) (σ : Standing) (start last : ℕ) (wt : Option Sent) (x now : ℕ) (q : Request) → i < z.stations → now ≤ reading_limit → c₀ ≤ now →
+      request_refusal z.profiles q ≡ Ok tt → ((l : List Hold) → holds_sent l q ≡ l) →
+      is_over (rm i c₀ σ start last wt x) now ≡ false → forbids (rm i now σ start last wt x) (Send q) ≡ Ok tt →
+      room_step (rm i c₀ σ start last wt x) now (Send q) ≡ stepped (rm i now σ start (last + 1) (waits q now) x) (answer.Sent (last + 1) q) 0 0
   unfolding after
   sends i c₀ σ start last wt x now q here top on named same over may =
       room.step_on (rm i c₀ σ start last wt x) now (Send q) (room.free z good i c₀ now (Send q) here refl named top on) over may
-      ∙ ap (λ (l : List Hold). stepped (record { settings = z; number = i; standing = σ; start = start; last = last + 1; reading = now; waiting = Sent q now; holds = l }) (answer.Sent (last + 1) q) 0 0) (same (hs x))
+      ∙ ap (λ (l : List Hold). stepped (record { settings = z; number = i; standing = σ; start = start; last = last + 1; reading = now; waiting = waits q now; holds = l }) (answer.Sent (last + 1) q) 0 0) (same (hs x))
 
   -- and gets its ACK at once
   takes : (i : ℕ) (σ : Standing) (start k x x' now : ℕ) (q : Request) (a : Ack) → i < z.stations → now ≤ reading_limit →
-      ack_refusal z.profiles a ≡ 0 → fits q (mode_of (rm i now σ start k (Sent q now) x) (ack_profile a)) a ≡ true → holds_acked (hs x) a ≡ hs x' →
-      is_over (rm i now σ start k (Sent q now) x) now ≡ false →
-      room_step (rm i now σ start k (Sent q now) x) now (Acked i k a) ≡ stepped (rm i now Open now k Nothing x') answer.Done 0 0
+      ack_refusal z.profiles a ≡ Ok tt → fits q (mode_of (rm i now σ start k (waits q now) x) (ack_profile a)) a ≡ true → holds_acked (hs x) a ≡ hs x' →
+      is_over (rm i now σ start k (waits q now) x) now ≡ false →
+      room_step (rm i now σ start k (waits q now) x) now (Acked i k a) ≡ stepped (rm i now Open now k None x') answer.Done 0 0
   unfolding after ack_forbids
   takes i σ start k x x' now q a here top named fit gained over =
-      room.step_on (rm i now σ start k (Sent q now) x) now (Acked i k a) (room.free z good i now now (Acked i k a) here refl named top (le_refl now)) over may
-      ∙ ap (λ (l : List Hold). stepped (record { settings = z; number = i; standing = Open; start = now; last = k; reading = now; waiting = Nothing; holds = l }) answer.Done 0 0) gained
+      room.step_on (rm i now σ start k (waits q now) x) now (Acked i k a) (room.free z good i now now (Acked i k a) here refl named top (le_refl now)) over may
+      ∙ ap (λ (l : List Hold). stepped (record { settings = z; number = i; standing = Open; start = now; last = k; reading = now; waiting = None; holds = l }) answer.Done 0 0) gained
     where
-      may : ack_forbids (Sent q now) (lease z) now k k (mode_of (rm i now σ start k (Sent q now) x) (ack_profile a)) a ≡ 0
+      may : ack_forbids (waits q now) (lease z) now k k (mode_of (rm i now σ start k (waits q now) x) (ack_profile a)) a ≡ Ok tt
       may = rw (eq-eqb k k refl, fit, lt-leb (now + lease z) now (omega (arith, ok)))
 
   module _ (Q : Moment → Type 0) (c : ℕ) (cs : ℕ → ℕ) (mine : (e : Happening) → Q (record { server = c; rooms = cs; what = e }))
@@ -209,20 +194,20 @@ module _ (z : Settings) (good : in_range z ≡ true) (two : 2 ≤ z.stations) (w
       (top : c ≤ reading_limit) (tops : (i : ℕ) → cs i ≤ reading_limit) where
     -- one message there and its ACK back
     turn : {s : Server} {rooms : ℕ → Station} {q : Request} {a : Ack} {A : ServerAnswer} {x x' : ℕ} → Story z w Q s rooms → Exchange q a A x x' →
-        (i c₀ : ℕ) (σ : Standing) (start last : ℕ) (wt : Waiting) (s' : Server) → i < z.stations → c₀ ≤ cs i → rooms i ≡ rm i c₀ σ start last wt x →
-        is_over (rm i c₀ σ start last wt x) (cs i) ≡ false → forbids (rm i (cs i) σ start last wt x) (Send q) ≡ 0 →
+        (i c₀ : ℕ) (σ : Standing) (start last : ℕ) (wt : Option Sent) (s' : Server) → i < z.stations → c₀ ≤ cs i → rooms i ≡ rm i c₀ σ start last wt x →
+        is_over (rm i c₀ σ start last wt x) (cs i) ≡ false → forbids (rm i (cs i) σ start last wt x) (Send q) ≡ Ok tt →
         server_step w s c (server.Message i (last + 1) q) ≡ record { server = s'; answer = A } →
-        Story z w Q s' (put i (rm i (cs i) Open (cs i) (last + 1) Nothing x') rooms)
+        Story z w Q s' (put i (rm i (cs i) Open (cs i) (last + 1) None x') rooms)
     turn {s} {rooms} {q} {a} {A} {x} {x'} S E i c₀ σ start last wt s' here on is over may heard =
         exchange z w Q c cs mine clocks S i here q (message_of i (last + 1) q)
-        (stepped (rm i (cs i) σ start (last + 1) (Sent q (cs i)) x) (answer.Sent (last + 1) q) 0 0)
+        (stepped (rm i (cs i) σ start (last + 1) (waits q (cs i)) x) (answer.Sent (last + 1) q) 0 0)
         (ap (λ (v : Station). room_step v (cs i) (Send q)) is ∙ sends i c₀ σ start last wt x (cs i) q here (tops i) on E.named E.same over may)
         (E.sent i (last + 1))
         (server.Message i (last + 1) q) (record { server = s'; answer = A }) (E.back i (last + 1)) []
         (heard_back_lem i (last + 1) q) heard (E.answered i (last + 1))
-        (Acked i (last + 1) a) (stepped (rm i (cs i) Open (cs i) (last + 1) Nothing x') answer.Done 0 0)
+        (Acked i (last + 1) a) (stepped (rm i (cs i) Open (cs i) (last + 1) None x') answer.Done 0 0)
         (E.told i (last + 1))
-        (takes i σ start (last + 1) x x' (cs i) q a here (tops i) E.named_back (E.fitting i (cs i) start (last + 1) σ (Sent q (cs i))) E.gained over)
+        (takes i σ start (last + 1) x x' (cs i) q a here (tops i) E.named_back (E.fitting i (cs i) start (last + 1) σ (waits q (cs i))) E.gained over)
 
   -- the server's answers in the story
   hello₀ : server_step w (srv 0 0 0 Unknown Unknown 0 0 Unmarked) 0 (server.Message 0 1 Hello)
@@ -232,20 +217,16 @@ module _ (z : Settings) (good : in_range z ≡ true) (two : 2 ≤ z.stations) (w
       served.heard w (srv 0 0 0 Unknown Unknown 0 0 Unmarked) 0 0 1 Hello
       (served.free z good 0 0 (server.Message 0 1 Hello) (rw (lt-leb z.stations 0 here₀)) zero-le zero-le) (lit< tt)
 
-  named₀ : (k : ℕ) → event_refusal z (server.Message 0 k (Ask 0 (mode X))) ≡ 0
+  ask_named : (i k : ℕ) → i < z.stations → event_refusal z (server.Message i k (Ask 0 (mode X))) ≡ Ok tt
   unfolding is_mode
-  named₀ k = rw (lt-leb z.stations 0 here₀, lt-leb z.profiles 0 any₀)
-
-  named₁ : (k : ℕ) → event_refusal z (server.Message 1 k (Ask 0 (mode X))) ≡ 0
-  unfolding is_mode
-  named₁ k = rw (lt-leb z.stations 1 here₁, lt-leb z.profiles 0 any₀)
+  ask_named i k here = rw (lt-leb z.stations i here, lt-leb z.profiles 0 any₀)
 
   ask₀ : server_step w (srv 0 1 0 Live Unknown 0 0 Unmarked) 0 (server.Message 0 2 (Ask 0 (mode X)))
       ≡ record { server = srv 0 2 0 Live Unknown X 0 Unmarked; answer = says.Granted 0 (mode X) }
   unfolding by_status heed ask_rule conflicts join goes_with
   ask₀ =
       served.heard w (srv 0 1 0 Live Unknown 0 0 Unmarked) 0 0 2 (Ask 0 (mode X))
-      (served.free z good 0 0 (server.Message 0 2 (Ask 0 (mode X))) (named₀ 2) zero-le zero-le) (lit< tt)
+      (served.free z good 0 0 (server.Message 0 2 (Ask 0 (mode X))) (ask_named 0 2 here₀) zero-le zero-le) (lit< tt)
 
   hello₁ : server_step w (srv 0 2 0 Live Unknown X 0 Unmarked) 0 (server.Message 1 1 Hello)
       ≡ record { server = srv 0 2 1 Live Live X 0 Unmarked; answer = says.Done }
@@ -260,7 +241,7 @@ module _ (z : Settings) (good : in_range z ≡ true) (two : 2 ≤ z.stations) (w
   unfolding by_status heed ask_rule conflicts join goes_with
   ask₁ =
       served.heard w (srv 0 2 1 Live Live X 0 Unmarked) 0 1 2 (Ask 0 (mode X))
-      (served.free z good 0 0 (server.Message 1 2 (Ask 0 (mode X))) (named₁ 2) zero-le zero-le) (lit< tt)
+      (served.free z good 0 0 (server.Message 1 2 (Ask 0 (mode X))) (ask_named 1 2 here₁) zero-le zero-le) (lit< tt)
 
   alive₀ : (c₀ c k : ℕ) → c₀ ≤ c → c ≤ reading_limit → server_step w (srv c₀ k 2 Live Live X 0 (Demanded 0)) c (server.Message 0 (k + 1) KeepAlive)
       ≡ record { server = srv c (k + 1) 2 Live Live X 0 (Demanded 0); answer = says.Done }
@@ -292,25 +273,25 @@ module _ (z : Settings) (good : in_range z ≡ true) (two : 2 ≤ z.stations) (w
     unfolding by_status heed ask_rule conflicts join goes_with
     grant₁ =
         served.heard w (srv c k 3 Unknown Live 0 0 Unmarked) c 1 4 (Ask 0 (mode X))
-        (served.free z good c c (server.Message 1 4 (Ask 0 (mode X))) (named₁ 4) top (le_refl c)) (lit< tt)
+        (served.free z good c c (server.Message 1 4 (Ask 0 (mode X))) (ask_named 1 4 here₁) top (le_refl c)) (lit< tt)
 
   base : 1 ≤ z.d
   base = ok.rates.base
 
   -- a message may be sent
-  may_hello : (i now start last : ℕ) (wt : Waiting) (x : ℕ) → last < last_number → forbids (rm i now Out start last wt x) (Send Hello) ≡ 0
+  may_hello : (i now start last : ℕ) (wt : Option Sent) (x : ℕ) → last < last_number → forbids (rm i now Out start last wt x) (Send Hello) ≡ Ok tt
   unfolding send_refusal
   may_hello i now start last wt x b = rw (lt-ltb last last_number b)
 
-  may_alive : (i now start last : ℕ) (wt : Waiting) (x : ℕ) → now - start < edge2 z → last < last_number → forbids (rm i now Open start last wt x) (Send KeepAlive) ≡ 0
+  may_alive : (i now start last : ℕ) (wt : Option Sent) (x : ℕ) → now - start < edge2 z → last < last_number → forbids (rm i now Open start last wt x) (Send KeepAlive) ≡ Ok tt
   unfolding send_refusal
   may_alive i now start last wt x b small = rw (room.is_early z good start now b, lt-ltb last last_number small)
 
-  may_ask : (i now start last : ℕ) (wt : Waiting) (x : ℕ) → now - start < edge2 z → last < last_number → forbids (rm i now Open start last wt x) (Send (Ask 0 (mode X))) ≡ 0
+  may_ask : (i now start last : ℕ) (wt : Option Sent) (x : ℕ) → now - start < edge2 z → last < last_number → forbids (rm i now Open start last wt x) (Send (Ask 0 (mode X))) ≡ Ok tt
   unfolding send_refusal
   may_ask i now start last wt x b small = rw (room.is_early z good start now b, lt-ltb last last_number small)
 
-  runs : (i c₀ start last : ℕ) (wt : Waiting) (x now : ℕ) → now < start + lease z → is_over (rm i c₀ Open start last wt x) now ≡ false
+  runs : (i c₀ start last : ℕ) (wt : Option Sent) (x now : ℕ) → now < start + lease z → is_over (rm i c₀ Open start last wt x) now ≡ false
   runs i c₀ start last wt x now b = room.runs z good (rm i c₀ Open start last wt x) now b
 
   soon : (t : ℕ) → t - t < edge2 z
@@ -320,13 +301,13 @@ module _ (z : Settings) (good : in_range z ≡ true) (two : 2 ≤ z.stations) (w
   within t = omega (arith, ok)
 
   abbrev out₀ : Station
-  out₀ = rm 0 0 Out 0 0 Nothing 0
+  out₀ = rm 0 0 Out 0 0 None 0
 
   abbrev out₁ : Station
-  out₁ = rm 1 0 Out 0 0 Nothing 0
+  out₁ = rm 1 0 Out 0 0 None 0
 
   abbrev in₀ : ℕ → ℕ → Station
-  in₀ t k = rm 0 t Open t k Nothing X
+  in₀ t k = rm 0 t Open t k None X
 
   -- nothing has happened
   story₀ : Story z w (Together 0) (srv 0 0 0 Unknown Unknown 0 0 Unmarked) (pair out₀ out₁)
@@ -345,36 +326,36 @@ module _ (z : Settings) (good : in_range z ≡ true) (two : 2 ≤ z.stations) (w
       rooms (suc (suc j)) = refl
 
   -- station 0 says hello
-  story₁ : Story z w (Together 0) (srv 0 1 0 Live Unknown 0 0 Unmarked) (pair (rm 0 0 Open 0 1 Nothing 0) out₁)
+  story₁ : Story z w (Together 0) (srv 0 1 0 Live Unknown 0 0 Unmarked) (pair (rm 0 0 Open 0 1 None 0) out₁)
   story₁ =
-      rearrange z w (put₀ (rm 0 0 Open 0 1 Nothing 0) out₀ out₁)
-      (turn (Together 0) 0 (λ j. 0) (at_together 0) (together z base 0) zero-le (λ j. zero-le) story₀ (hello 0) 0 0 Out 0 0 Nothing _ here₀ zero-le refl
-      refl (may_hello 0 0 0 0 Nothing 0 (lit< tt)) hello₀)
+      rearrange z w (put₀ (rm 0 0 Open 0 1 None 0) out₀ out₁)
+      (turn (Together 0) 0 (λ j. 0) (at_together 0) (together z base 0) zero-le (λ j. zero-le) story₀ (hello 0) 0 0 Out 0 0 None _ here₀ zero-le refl
+      refl (may_hello 0 0 0 0 None 0 (lit< tt)) hello₀)
 
   -- and is granted X
   story₂ : Story z w (Together 0) (srv 0 2 0 Live Unknown X 0 Unmarked) (pair (in₀ 0 2) out₁)
   story₂ =
-      rearrange z w (put₀ (in₀ 0 2) (rm 0 0 Open 0 1 Nothing 0) out₁)
-      (turn (Together 0) 0 (λ j. 0) (at_together 0) (together z base 0) zero-le (λ j. zero-le) story₁ ask 0 0 Open 0 1 Nothing _ here₀ zero-le refl
-      (runs 0 0 0 1 Nothing 0 0 (within 0)) (may_ask 0 0 0 1 Nothing 0 (soon 0) (lit< tt)) ask₀)
+      rearrange z w (put₀ (in₀ 0 2) (rm 0 0 Open 0 1 None 0) out₁)
+      (turn (Together 0) 0 (λ j. 0) (at_together 0) (together z base 0) zero-le (λ j. zero-le) story₁ ask 0 0 Open 0 1 None _ here₀ zero-le refl
+      (runs 0 0 0 1 None 0 0 (within 0)) (may_ask 0 0 0 1 None 0 (soon 0) (lit< tt)) ask₀)
 
   -- station 1 says hello
-  story₃ : Story z w (Together 0) (srv 0 2 1 Live Live X 0 Unmarked) (pair (in₀ 0 2) (rm 1 0 Open 0 1 Nothing 0))
+  story₃ : Story z w (Together 0) (srv 0 2 1 Live Live X 0 Unmarked) (pair (in₀ 0 2) (rm 1 0 Open 0 1 None 0))
   story₃ =
-      rearrange z w (put₁ (rm 1 0 Open 0 1 Nothing 0) (in₀ 0 2) out₁)
-      (turn (Together 0) 0 (λ j. 0) (at_together 0) (together z base 0) zero-le (λ j. zero-le) story₂ (hello 0) 1 0 Out 0 0 Nothing _ here₁ zero-le refl
-      refl (may_hello 1 0 0 0 Nothing 0 (lit< tt)) hello₁)
+      rearrange z w (put₁ (rm 1 0 Open 0 1 None 0) (in₀ 0 2) out₁)
+      (turn (Together 0) 0 (λ j. 0) (at_together 0) (together z base 0) zero-le (λ j. zero-le) story₂ (hello 0) 1 0 Out 0 0 None _ here₁ zero-le refl
+      refl (may_hello 1 0 0 0 None 0 (lit< tt)) hello₁)
 
   -- and asks X, and is to wait: the answer is left to lie
   abbrev waits₁ : Station
-  waits₁ = rm 1 0 Open 0 2 (Sent (Ask 0 (mode X)) 0) 0
+  waits₁ = rm 1 0 Open 0 2 (waits (Ask 0 (mode X)) 0) 0
 
   story₄ : Story z w (Together 0) (srv 0 2 2 Live Live X 0 (Demanded 0)) (pair (in₀ 0 2) waits₁)
   story₄ =
-      rearrange z w (put₁ waits₁ (in₀ 0 2) (rm 1 0 Open 0 1 Nothing 0))
+      rearrange z w (put₁ waits₁ (in₀ 0 2) (rm 1 0 Open 0 1 None 0))
       (said z w (Together 0) 0 (λ j. 0) (at_together 0) (together z base 0) story₃ 1 here₁ (Ask 0 (mode X)) (message_of 1 2 (Ask 0 (mode X)))
       (stepped waits₁ (answer.Sent 2 (Ask 0 (mode X))) 0 0)
-      (sends 1 0 Open 0 1 Nothing 0 0 (Ask 0 (mode X)) here₁ zero-le zero-le ask.named ask.same (runs 1 0 0 1 Nothing 0 0 (within 0)) (may_ask 1 0 0 1 Nothing 0 (soon 0) (lit< tt)))
+      (sends 1 0 Open 0 1 None 0 0 (Ask 0 (mode X)) here₁ zero-le zero-le ask.named ask.same (runs 1 0 0 1 None 0 0 (within 0)) (may_ask 1 0 0 1 None 0 (soon 0) (lit< tt)))
       (ask.sent 1 2) (server.Message 1 2 (Ask 0 (mode X))) (record { server = _; answer = says.Wait 0 (mode X) 1 1 }) (heard_back_lem 1 2 (Ask 0 (mode X))) ask₁)
 
   -- the numbers of station 0's messages
@@ -404,8 +385,8 @@ module _ (z : Settings) (good : in_range z ≡ true) (two : 2 ≤ z.stations) (w
       on S =
           rearrange z w (put₀ (in₀ (suc t) (number t + 1)) (in₀ t (number t)) waits₁)
           (turn (Together (suc t)) (suc t) (λ j. suc t) (at_together (suc t)) (together z base (suc t)) top (λ j. top)
-          (widen z w (later (omega arith)) S) (alive X) 0 t Open t (number t) Nothing _ here₀ (omega arith) refl
-          (runs 0 t t (number t) Nothing X (suc t) (omega (arith, ok))) (may_alive 0 (suc t) t (number t) Nothing X (omega (arith, ok)) (small t (omega arith)))
+          (widen z w (later (omega arith)) S) (alive X) 0 t Open t (number t) None _ here₀ (omega arith) refl
+          (runs 0 t t (number t) None X (suc t) (omega (arith, ok))) (may_alive 0 (suc t) t (number t) None X (omega (arith, ok)) (small t (omega arith)))
           (alive₀ t (suc t) (number t) (omega arith) top))
 
   -- the tick at R
@@ -485,34 +466,34 @@ module _ (z : Settings) (good : in_range z ≡ true) (two : 2 ≤ z.stations) (w
         ∙ freed₀ (number z.r))
 
     -- station 1 starts anew
-    anew : Story z w Leapt (srv (z.r + w) (number z.r) 2 Unknown Live 0 0 Unmarked) (pair (in₀ z.r (number z.r)) (rm 1 (z.r + w) Out 0 2 Nothing 0))
+    anew : Story z w Leapt (srv (z.r + w) (number z.r) 2 Unknown Live 0 0 Unmarked) (pair (in₀ z.r (number z.r)) (rm 1 (z.r + w) Out 0 2 None 0))
     unfolding after no_holds
     anew =
         let now = z.r + w in
         let restarted =
         room.step_over waits₁ now Restart (room.free z good 1 0 now Restart here₁ refl refl top zero-le) (rw (le-leb (0 + lease z) now (omega arith))) refl in
-        rearrange z w (put₁ (rm 1 now Out 0 2 Nothing 0) (in₀ z.r (number z.r)) waits₁)
+        rearrange z w (put₁ (rm 1 now Out 0 2 None 0) (in₀ z.r (number z.r)) waits₁)
         (acted z w Leapt now leap leapt leaps freed 1 Restart here₁ refl _ restarted)
 
     -- says hello
-    greets : Story z w Leapt (srv (z.r + w) (number z.r) 3 Unknown Live 0 0 Unmarked) (pair (in₀ z.r (number z.r)) (rm 1 (z.r + w) Open (z.r + w) 3 Nothing 0))
+    greets : Story z w Leapt (srv (z.r + w) (number z.r) 3 Unknown Live 0 0 Unmarked) (pair (in₀ z.r (number z.r)) (rm 1 (z.r + w) Open (z.r + w) 3 None 0))
     greets =
-        rearrange z w (put₁ (rm 1 (z.r + w) Open (z.r + w) 3 Nothing 0) (in₀ z.r (number z.r)) (rm 1 (z.r + w) Out 0 2 Nothing 0))
-        (turn Leapt (z.r + w) leap leapt leaps top tops anew (hello 0) 1 (z.r + w) Out 0 2 Nothing _ here₁ (le_refl (z.r + w)) refl
-        refl (may_hello 1 (z.r + w) 0 2 Nothing 0 (lit< tt)) (again₁ (z.r + w) top (number z.r)))
+        rearrange z w (put₁ (rm 1 (z.r + w) Open (z.r + w) 3 None 0) (in₀ z.r (number z.r)) (rm 1 (z.r + w) Out 0 2 None 0))
+        (turn Leapt (z.r + w) leap leapt leaps top tops anew (hello 0) 1 (z.r + w) Out 0 2 None _ here₁ (le_refl (z.r + w)) refl
+        refl (may_hello 1 (z.r + w) 0 2 None 0 (lit< tt)) (again₁ (z.r + w) top (number z.r)))
 
     -- and is granted X
-    granted : Story z w Leapt (srv (z.r + w) (number z.r) 4 Unknown Live 0 X Unmarked) (pair (in₀ z.r (number z.r)) (rm 1 (z.r + w) Open (z.r + w) 4 Nothing X))
+    granted : Story z w Leapt (srv (z.r + w) (number z.r) 4 Unknown Live 0 X Unmarked) (pair (in₀ z.r (number z.r)) (rm 1 (z.r + w) Open (z.r + w) 4 None X))
     granted =
-        rearrange z w (put₁ (rm 1 (z.r + w) Open (z.r + w) 4 Nothing X) (in₀ z.r (number z.r)) (rm 1 (z.r + w) Open (z.r + w) 3 Nothing 0))
-        (turn Leapt (z.r + w) leap leapt leaps top tops greets ask 1 (z.r + w) Open (z.r + w) 3 Nothing _ here₁ (le_refl (z.r + w)) refl
-        (runs 1 (z.r + w) (z.r + w) 3 Nothing 0 (z.r + w) (within (z.r + w)))
-        (may_ask 1 (z.r + w) (z.r + w) 3 Nothing 0 (soon (z.r + w)) (lit< tt)) (grant₁ (z.r + w) top (number z.r)))
+        rearrange z w (put₁ (rm 1 (z.r + w) Open (z.r + w) 4 None X) (in₀ z.r (number z.r)) (rm 1 (z.r + w) Open (z.r + w) 3 None 0))
+        (turn Leapt (z.r + w) leap leapt leaps top tops greets ask 1 (z.r + w) Open (z.r + w) 3 None _ here₁ (le_refl (z.r + w)) refl
+        (runs 1 (z.r + w) (z.r + w) 3 None 0 (z.r + w) (within (z.r + w)))
+        (may_ask 1 (z.r + w) (z.r + w) 3 None 0 (soon (z.r + w)) (lit< tt)) (grant₁ (z.r + w) top (number z.r)))
 
-    uses : (i c start k now : ℕ) → i < z.stations → now ≤ reading_limit → c ≤ now → now < start + lease z → may_use (rm i c Open start k Nothing X) now 0 ≡ Yes
+    uses : (i c start k now : ℕ) → i < z.stations → now ≤ reading_limit → c ≤ now → now < start + lease z → may_use (rm i c Open start k None X) now 0 ≡ Ok true
     unfolding is_mode
     uses i c start k now here t on b =
-        may_use_lem (rm i c Open start k Nothing X) now 0 (use_free z good i c now 0 here any₀ t on) refl b
+        may_use_lem (rm i c Open start k None X) now 0 (use_free z good i c now 0 here any₀ t on) refl b
 
     clash : goes_with X X ≡ false
     unfolding goes_with

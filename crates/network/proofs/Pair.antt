@@ -6,14 +6,13 @@ use mathlib.Core.Logic.{◌⊎◌, inl, inr}
 use Prim.Native.Nat.{ℕ, ◌+◌, ◌<◌, ◌≤◌}
 use native.Mathlib.Nat.{le_trans}
 use native.Mathlib.Omega.{arith}
+use Rattle.std.proofs.Common.{Option, Some, None}
 use Rattle.record.specs.declared.message.Message.{Message}
 use Rattle.modes.specs.Modes.{covers}
 use Rattle.modes.proofs.Laws.{covers_none}
 use Rattle.members.specs.declared.member.Status.{Status}
 use Rattle.members.specs.declared.member.Status.TheVariants.{Unknown, Live, TimingOut}
-use Rattle.requests.specs.declared.Request.{Request}
-use Rattle.room.specs.declared.event.Waiting.{Waiting}
-use Rattle.room.specs.declared.event.Waiting.TheVariants.{Nothing, Sent}
+use Rattle.room.specs.declared.event.Sent.{Sent}
 
 -- what the server has of a station
 pub record Slot : Type 0 where
@@ -26,7 +25,7 @@ pub record Seat : Type 0 where
   pub out : Bool
   pub start : ℕ
   pub last : ℕ
-  pub waiting : Waiting
+  pub waiting : Option Sent
   pub mode : ℕ → ℕ
 
 -- The server still keeps a lease that started at x: it has the station live, or its time-out began when the station's clock was past x.
@@ -64,14 +63,14 @@ module _ (L : ℕ) where
     pub down_old : (m : Message) → D m → m.number ≤ S.last
     -- the lease started, and the waiting message was sent, not after now
     pub started : R.start ≤ c
-    pub sent_at_lem : (q : Request) (t : ℕ) → R.waiting ≡ Sent q t → t ≤ c
+    pub sent_at_lem : (q : Sent) → R.waiting ≡ Some q → q.at ≤ c
     -- while the lease lasts the server keeps it
     pub lease : R.out ≡ false → c < R.start + L → Held P S.status R.start
     -- whatever the lease: as long as the server knows the station, its modes there cover the room's
     pub cover : R.out ≡ false → Known S.status → Covered S.mode R.mode
     -- an ACK of the waiting message, while it would still be taken: the server keeps the lease that it would start, and what it grants
-    pub reply : (q : Request) (t : ℕ) → R.waiting ≡ Sent q t → c < t + L → (m : Message) → D m → m.number ≡ R.last →
-        Held P S.status t × Fits m S.mode
+    pub reply : (q : Sent) → R.waiting ≡ Some q → c < q.at + L → (m : Message) → D m → m.number ≡ R.last →
+        Held P S.status q.at × Fits m S.mode
     -- a release (kind 4) that the server has not heard: the room's mode is gone
     pub released : (m : Message) → U m → m.kind ≡ 4 → S.last < m.number → R.mode m.profile ≡ 0
     -- a hello (kind 1) that the server has not heard: the room is out
@@ -93,10 +92,10 @@ module _ (L : ℕ) where
     heard = I.heard;
     down_old = λ m x. I.down_old m (d m x);
     started = le_trans I.started h;
-    sent_at_lem = λ q t e. le_trans (I.sent_at_lem q t e) h;
+    sent_at_lem = λ q e. le_trans (I.sent_at_lem q e) h;
     lease = λ o b. held_later f S.status R.start (I.lease o (omega arith));
     cover = I.cover;
-    reply = λ q t e b m x k. let y = I.reply q t e (omega arith) m (d m x) k in (held_later f S.status t y.0, y.1);
+    reply = λ q e b m x k. let y = I.reply q e (omega arith) m (d m x) k in (held_later f S.status q.at y.0, y.1);
     released = λ m x k b. I.released m (u m x) k b;
     greeted = λ m x k b. I.greeted m (u m x) k b;
     empty = I.empty;
@@ -117,7 +116,7 @@ module _ (L : ℕ) where
     sent_at_lem = I.sent_at_lem;
     lease = λ o b. hold R.start (I.lease o b);
     cover = cover;
-    reply = λ q t w b a d k. answer t a k (acks a d);
+    reply = λ q w b a d k. answer q.at a k (acks a d);
     released = λ a x k b. I.released a x k (omega arith);
     greeted = λ a x k b. I.greeted a x k (omega arith);
     empty = I.empty;
@@ -149,31 +148,31 @@ module _ (L : ℕ) where
     sent_at_lem = I.sent_at_lem;
     lease = λ o b. hold R.start I.started b (I.lease o b);
     cover = λ o k p. let y = known k in rw (y.1 p) (I.cover o y.0 p);
-    reply = λ q t w b a d k.
-        let x = I.reply q t w b a d k in
-        let y = hold t (I.sent_at_lem q t w) b x.0 in
-        (y, λ g. (known (held_known P S'.status t y)).1 a.profile ∙ x.1 g);
+    reply = λ q w b a d k.
+        let x = I.reply q w b a d k in
+        let y = hold q.at (I.sent_at_lem q w) b x.0 in
+        (y, λ g. (known (held_known P S'.status q.at y)).1 a.profile ∙ x.1 g);
     released = λ a x k b. I.released a x k (omega arith);
     greeted = λ a x k b. I.greeted a x k (omega arith);
     empty = I.empty;
   }
 
-  nothing_waits : {w : Waiting} {q : Request} {t : ℕ} → w ≡ Nothing → w ≡ Sent q t → ⊥
-  nothing_waits p q = let z : ◌≡◌ {A = ℕ} 0 1 = cc in omega arith
+  nothing_waits : {w : Option Sent} {q : Sent} → w ≡ None → w ≡ Some q → ⊥
+  nothing_waits p q = grind arith
 
   -- the room goes out: its lease is over, or it is started anew
   pub left : {S : Slot} {R R' : Seat} {U D : Message → Type 0} {P : ℕ → ℕ → Type 0} {c : ℕ} →
-      Inv S R U D P c → R'.out ≡ true → R'.start ≤ c → R'.last ≡ R.last → R'.waiting ≡ Nothing → ((p : ℕ) → R'.mode p ≡ 0) →
+      Inv S R U D P c → R'.out ≡ true → R'.start ≤ c → R'.last ≡ R.last → R'.waiting ≡ None → ((p : ℕ) → R'.mode p ≡ 0) →
       Inv S R' U D P c
   left {S} {R} {R'} I o st l w m = record {
     up_old = λ a u. rw l (I.up_old a u);
     heard = rw l I.heard;
     down_old = I.down_old;
     started = st;
-    sent_at_lem = λ q t e. absurd (nothing_waits w e);
+    sent_at_lem = λ q e. absurd (nothing_waits w e);
     lease = λ o' b. absurd (true≢false (sym o ∙ o'));
     cover = λ o' k. absurd (true≢false (sym o ∙ o'));
-    reply = λ q t e b a d k. absurd (nothing_waits w e);
+    reply = λ q e b a d k. absurd (nothing_waits w e);
     released = λ a u k b. m a.profile;
     greeted = λ a u k b. o;
     empty = λ o p. m p;
@@ -181,17 +180,17 @@ module _ (L : ℕ) where
 
   -- a waiting message goes, by a NACK
   pub dropped : {S : Slot} {R R' : Seat} {U D : Message → Type 0} {P : ℕ → ℕ → Type 0} {c : ℕ} →
-      Inv S R U D P c → R'.out ≡ R.out → R'.start ≡ R.start → R'.last ≡ R.last → R'.waiting ≡ Nothing → R'.mode ≡ R.mode →
+      Inv S R U D P c → R'.out ≡ R.out → R'.start ≡ R.start → R'.last ≡ R.last → R'.waiting ≡ None → R'.mode ≡ R.mode →
       Inv S R' U D P c
   dropped {S} {R} {R'} I o st l w m = record {
     up_old = λ a u. rw l (I.up_old a u);
     heard = rw l I.heard;
     down_old = I.down_old;
     started = rw st I.started;
-    sent_at_lem = λ q t e. absurd (nothing_waits w e);
+    sent_at_lem = λ q e. absurd (nothing_waits w e);
     lease = rw (o, st) I.lease;
     cover = rw (o, m) I.cover;
-    reply = λ q t e b a d k. absurd (nothing_waits w e);
+    reply = λ q e b a d k. absurd (nothing_waits w e);
     released = rw m I.released;
     greeted = rw o I.greeted;
     empty = rw (o, m) I.empty;
@@ -199,23 +198,23 @@ module _ (L : ℕ) where
 
   -- the room sends a message: it takes the next number and waits
   pub posted : {S : Slot} {R R' : Seat} {U U' D : Message → Type 0} {P : ℕ → ℕ → Type 0} {c : ℕ} →
-      Inv S R U D P c → (q : Request) (m : Message) →
-      R'.out ≡ R.out → R'.start ≡ R.start → R'.last ≡ R.last + 1 → R'.waiting ≡ Sent q c →
+      Inv S R U D P c → (q : Sent) (m : Message) →
+      R'.out ≡ R.out → R'.start ≡ R.start → R'.last ≡ R.last + 1 → R'.waiting ≡ Some q → q.at ≡ c →
       ((p : ℕ) → (R'.mode p ≡ R.mode p) ⊎ (R'.mode p ≡ 0)) →
       m.number ≡ R.last + 1 →
       (m.kind ≡ 4 → R'.mode m.profile ≡ 0) →
       (m.kind ≡ 1 → R.out ≡ true) →
       ((a : Message) → U' a → U a ⊎ (a ≡ m)) →
       Inv S R' U' D P c
-  posted {S} {R} {R'} {U} {U'} {D} {P} {c} I q m o st l w modes number rel hi ups = record {
+  posted {S} {R} {R'} {U} {U'} {D} {P} {c} I q m o st l w sent modes number rel hi ups = record {
     up_old = λ a u. old a (ups a u);
     heard = let x = I.heard in omega arith;
     down_old = I.down_old;
     started = rw st I.started;
-    sent_at_lem = λ q t e. let z : c ≡ t = cc in omega arith;
+    sent_at_lem = λ s e. let z : q.at ≡ s.at = cc in omega arith;
     lease = λ o' b. rw st (I.lease (sym o ∙ o') (rw st at b));
     cover = λ o' k p. covered p (modes p) (I.cover (sym o ∙ o') k p);
-    reply = λ q t e b a d k. let x = I.down_old a d in let y = I.heard in absurd (omega arith);
+    reply = λ s e b a d k. let x = I.down_old a d in let y = I.heard in absurd (omega arith);
     released = λ a u k b. gone a k b (ups a u);
     greeted = λ a u k b. o ∙ outside a k b (ups a u);
     empty = λ o' p. none_held p (I.empty (sym o ∙ o') p) (modes p);
@@ -243,19 +242,19 @@ module _ (L : ℕ) where
 
   -- the waiting message is acknowledged in time
   pub acked : {S : Slot} {R R' : Seat} {U D : Message → Type 0} {P : ℕ → ℕ → Type 0} {c : ℕ} →
-      Inv S R U D P c → (q : Request) (t : ℕ) (m : Message) → R.waiting ≡ Sent q t → c < t + L → D m → m.number ≡ R.last →
-      R'.out ≡ false → R'.start ≡ t → R'.last ≡ R.last → R'.waiting ≡ Nothing →
+      Inv S R U D P c → (q : Sent) (m : Message) → R.waiting ≡ Some q → c < q.at + L → D m → m.number ≡ R.last →
+      R'.out ≡ false → R'.start ≡ q.at → R'.last ≡ R.last → R'.waiting ≡ None →
       (Covered S.mode R.mode → Fits m S.mode → Covered S.mode R'.mode) →
       Inv S R' U D P c
-  acked {S} {R} {R'} {U} {D} {P} {c} I q t m w fresh d number o st l w' modes = record {
+  acked {S} {R} {R'} {U} {D} {P} {c} I q m w fresh d number o st l w' modes = record {
     up_old = λ a u. rw l (I.up_old a u);
     heard = rw l I.heard;
     down_old = I.down_old;
-    started = rw st (I.sent_at_lem q t w);
-    sent_at_lem = λ q t e. absurd (nothing_waits w' e);
+    started = rw st (I.sent_at_lem q w);
+    sent_at_lem = λ s e. absurd (nothing_waits w' e);
     lease = λ o' b. rw st answer.0;
     cover = λ o' k. modes (before R.out refl) answer.1;
-    reply = λ q t e b a d k. absurd (nothing_waits w' e);
+    reply = λ s e b a d k. absurd (nothing_waits w' e);
     released = λ a u k b. let x = I.up_old a u in absurd (omega (arith, now));
     greeted = λ a u k b. let x = I.up_old a u in absurd (omega (arith, now));
     empty = λ o'. absurd (true≢false (sym o' ∙ o));
@@ -264,9 +263,9 @@ module _ (L : ℕ) where
       now : m.number ≤ S.last
       now = I.down_old m d
 
-      answer : Held P S.status t × Fits m S.mode
-      answer = I.reply q t w fresh m d number
+      answer : Held P S.status q.at × Fits m S.mode
+      answer = I.reply q w fresh m d number
 
       before : (b : Bool) → R.out ≡ b → Covered S.mode R.mode
       before true e p = rw (I.empty e p) (covers_none (S.mode p))
-      before false e p = I.cover e (held_known P S.status t answer.0) p
+      before false e p = I.cover e (held_known P S.status q.at answer.0) p

@@ -3,6 +3,7 @@
 use mathlib.Core.Path.{◌≡◌, refl, ap, ◌∙◌}
 use mathlib.Core.Bool.{Bool, true, false, ◌&&◌, not}
 use Prim.Native.Nat.{ℕ, ◌+◌, ◌-◌, ◌<◌, ◌≤◌}
+use Rattle.std.proofs.Common.{Ok}
 use borrow.Author.Tests.{ltb-true, ltb-false, le-ltb, lt-leb, eq-eqb}
 use lib.Dec.{ltb}
 use Rattle.masks.specs.Mask.{Set, mask, count}
@@ -12,9 +13,8 @@ use Rattle.timing.specs.declared.settings.Settings.{Settings}
 use Rattle.timing.specs.Settings.{in_range, lease}
 use Rattle.timing.specs.Phase.{edge1, edge2, phase_after}
 use Rattle.timing.proofs.Phases.{in_first, in_second}
-use Rattle.room.specs.declared.event.Event.{Event}
+use Rattle.station.specs.Event.{Event, Open}
 use Rattle.station.specs.declared.station.Station.{Station}
-use Rattle.holds.specs.declared.stage.Standing.TheVariants.{Open}
 use Rattle.holds.specs.Stage.{early, phase_at, open_phase, is_out}
 use Rattle.room.specs.Refusal.{station_of, named_refusal, refusal}
 use Rattle.station.specs.Effect.{last_after, answer_to}
@@ -23,14 +23,14 @@ use Rattle.station.proofs.Steps.{happens}
 use Rattle.station.proofs.Frames.{ends, lasts}
 
 module _ (s : Station) (now : ℕ) (e : Event) where
-  step_as : (x : Station) → expire s now ≡ x → refusal_of s now e ≡ 0 → forbids x e ≡ 0 →
+  step_as : (x : Station) → expire s now ≡ x → refusal_of s now e ≡ Ok tt → forbids x e ≡ Ok tt →
       step s now e ≡ stepped (after x e) (answer_to (last_after x.last e) x.holds e) (mask (lost s now e)) (count (lost s now e))
   step_as x same free may =
       happens s now e free (ap (λ (x : Station). forbids x e) same ∙ may)
       ∙ ap (λ (x : Station). stepped (after x e) (answer_to (last_after x.last e) x.holds e) (mask (lost s now e)) (count (lost s now e))) same
 
   -- while the lease runs, or out
-  pub step_on : refusal_of s now e ≡ 0 → is_over s now ≡ false → forbids (at_reading s now) e ≡ 0 →
+  pub step_on : refusal_of s now e ≡ Ok tt → is_over s now ≡ false → forbids (at_reading s now) e ≡ Ok tt →
       step s now e ≡ stepped (after (at_reading s now) e) (answer_to (last_after s.last e) s.holds e) 0 0
   step_on free over may =
       step_as (at_reading s now) (lasts s now over) free may
@@ -38,13 +38,13 @@ module _ (s : Station) (now : ℕ) (e : Event) where
       (ap (λ (b : Bool). lost_if (b && not (is_restart e)) s.holds) over)
 
   -- where the lease has run its length
-  pub step_over : refusal_of s now e ≡ 0 → is_over s now ≡ true → forbids (gone s now) e ≡ 0 →
+  pub step_over : refusal_of s now e ≡ Ok tt → is_over s now ≡ true → forbids (gone s now) e ≡ Ok tt →
       step s now e ≡ stepped (after (gone s now) e) (answer_to (last_after s.last e) (gone s now).holds e) (mask (lost s now e)) (count (lost s now e))
   step_over free over may = step_as (gone s now) (ends s now over) free may
 
 module _ (z : Settings) (good : in_range z ≡ true) where
-  pub free : (own last now : ℕ) (e : Event) → own < z.stations → station_of own e ≡ own → named_refusal z.profiles e ≡ 0 →
-      now ≤ reading_limit → last ≤ now → refusal z own last now e ≡ 0
+  pub free : (own last now : ℕ) (e : Event) → own < z.stations → station_of own e ≡ own → named_refusal z.profiles e ≡ Ok tt →
+      now ≤ reading_limit → last ≤ now → refusal z own last now e ≡ Ok tt
   unfolding refusal
   free own last now e here mine named top on =
       rw (good, lt-leb z.stations own here, eq-eqb (station_of own e) own mine, named, le-ltb reading_limit now top, le-ltb now last on)

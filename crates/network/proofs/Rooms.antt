@@ -8,9 +8,11 @@ use mathlib.Core.Logic.{◌⊎◌, inl, inr}
 use Prim.Native.Nat.{ℕ, zero, suc, ◌+◌, ◌<◌, zero-le}
 use native.Mathlib.Nat.{le_refl}
 use native.Mathlib.Omega.{arith}
+use Rattle.std.proofs.Common.{Ok, Err}
 use lib.Dec.{eqb}
 use lib.ListN.{length}
 use borrow.Author.Tests.{eqb-true, eq-eqb, ne_eqb}
+use Rattle.refusals.specs.Refusal.{Verdict}
 use Rattle.record.specs.declared.message.Message.{Message}
 use Rattle.modes.specs.Modes.{mode, covers}
 use Rattle.modes.proofs.Laws.{covers_self}
@@ -18,16 +20,8 @@ use Rattle.timing.specs.declared.settings.Settings.{Settings}
 use Rattle.timing.specs.Settings.{lease}
 use Rattle.station.specs.declared.station.Station.{Station}
 use Rattle.station.specs.declared.station.Stepped.{Stepped}
-use Rattle.holds.specs.declared.hold.Hold.{Hold}
-use Rattle.requests.specs.declared.Request.{Request}
-use Rattle.room.specs.declared.event.Waiting.{Waiting}
-use Rattle.room.specs.declared.event.Waiting.TheVariants.{Sent}
-use Rattle.room.specs.declared.event.Ack.{Ack}
-use Rattle.room.specs.declared.event.Ack.TheVariants.{Done, Granted, Wait, InUse}
-use Rattle.room.specs.declared.event.Event.{Event}
-use Rattle.room.specs.declared.event.Event.TheVariants.{Send, Begin, Edit, End, WriteOut, Restart, Ack as Acked, Nack as Nacked, Demand}
+use Rattle.station.specs.Event.{Request, Ack, Done, Granted, Wait, InUse, Event, Send, Begin, Edit, End, WriteOut, Restart, Acked, Nacked, Demand, Hold, Out, Open}
 use Rattle.station.specs.declared.event.Answer.TheVariants as answer
-use Rattle.holds.specs.declared.stage.Standing.TheVariants.{Out, Open}
 use Rattle.holds.specs.Stage.{is_out}
 use Rattle.room.specs.Refusal.{refusal, station_of}
 use Rattle.room.specs.Rules.{ack_profile, profile_for}
@@ -142,11 +136,11 @@ module _ (z : Settings) (w : World) (h : List Moment) (cs : ℕ → ℕ) (I : So
     own_after e = record { settings = F.own.settings; number = F.own.number; holds = after_length x e F.own.holds }
 
     -- Send
-    on_send : (q : Request) → profile_of q < length x.holds → forbids x (Send q) ≡ 0 →
+    on_send : (q : Request) → profile_of q < length x.holds → forbids x (Send q) ≡ Ok tt →
         Fit (after x (Send q)) (sent_by i (answer.Sent (x.last + 1) q) ++ w.up)
     unfolding after sent_by
     on_send q l e = record {
-      inv = posted (lease z) F.inv q (message_of i (x.last + 1) q) refl refl refl (ap (λ (n : ℕ). Sent q n) reads)
+      inv = posted (lease z) F.inv (record { request = q; at = x.reading }) (message_of i (x.last + 1) q) refl refl refl refl reads
           (sent_modes x q l)
           (message_number i (x.last + 1) q)
           (given_up x i (x.last + 1) q l)
@@ -161,12 +155,12 @@ module _ (z : Settings) (w : World) (h : List Moment) (cs : ℕ → ℕ) (I : So
         by_place m u (inr k) = inl (k, u.1)
 
     -- Ack
-    on_ack : (j k : ℕ) (a : Ack) → ack_profile a < length x.holds → j ≡ i → Came w.down (Acked j k a) → forbids x (Acked j k a) ≡ 0 →
+    on_ack : (j k : ℕ) (a : Ack) → ack_profile a < length x.holds → j ≡ i → Came w.down (Acked j k a) → forbids x (Acked j k a) ≡ Ok tt →
         Fit (after x (Acked j k a)) w.up
     unfolding after
     on_ack j k a l to c e = record {
-      inv = acked (lease z) F.inv A.request A.sent c.0 A.waits soon (c.1, c.2 ∙ to, c.3) (c.4 ∙ A.number)
-          refl (ap (λ (v : Waiting). sent_at v) A.waits) refl refl covered;
+      inv = acked (lease z) F.inv (record { request = A.request; at = A.sent }) c.0 A.waits soon (c.1, c.2 ∙ to, c.3) (c.4 ∙ A.number)
+          refl (ap sent_at A.waits) refl refl covered;
       own = own_after (Acked j k a);
     }
       where
@@ -203,7 +197,7 @@ module _ (z : Settings) (w : World) (h : List Moment) (cs : ℕ → ℕ) (I : So
         (sent_up w.up i) (ack_down w.down i) (past h i) (cs i))
         (sym (λ j p. same p j)) F.inv
 
-    on_allowed : (e : Event) → Came w.down e → profile_for e < length x.holds → station_of i e ≡ i → forbids x e ≡ 0 →
+    on_allowed : (e : Event) → Came w.down e → profile_for e < length x.holds → station_of i e ≡ i → forbids x e ≡ Ok tt →
         Fit (after x e) (sent_by i (answer_to (last_after x.last e) x.holds e) ++ w.up)
     unfolding after sent_by
     on_allowed (Send q) c l to e = on_send q l e
@@ -216,11 +210,11 @@ module _ (z : Settings) (w : World) (h : List Moment) (cs : ℕ → ℕ) (I : So
     on_allowed (Nacked j k d) c l to e = on_nack j k d
     on_allowed (Demand j p m) c l to e = record { inv = F.inv; own = own_after (Demand j p m) }
 
-    on_forbidden : (e : Event) → Came w.down e → profile_for e < length x.holds → station_of i e ≡ i → (n : ℕ) → forbids x e ≡ n → (lost count : ℕ) →
-        Fit (if_allowed n x e lost count).station (sent_by i (if_allowed n x e lost count).answer ++ w.up)
+    on_forbidden : (e : Event) → Came w.down e → profile_for e < length x.holds → station_of i e ≡ i → (v : Verdict) → forbids x e ≡ v → (lost count : ℕ) →
+        Fit (if_allowed v x e lost count).station (sent_by i (if_allowed v x e lost count).answer ++ w.up)
     unfolding if_allowed sent_by
-    on_forbidden e c l to zero q lost count = on_allowed e c l to q
-    on_forbidden e c l to (suc n) q lost count = F
+    on_forbidden e c l to (Ok _) q lost count = on_allowed e c l to q
+    on_forbidden e c l to (Err r) q lost count = F
 
   abbrev s : Station
   s = w.rooms i
@@ -228,17 +222,17 @@ module _ (z : Settings) (w : World) (h : List Moment) (cs : ℕ → ℕ) (I : So
   fit : Fit s w.up
   fit = record { inv = I.pair i here; own = I.own i here }
 
-  on_refusal : (e : Event) → Came w.down e → (n : ℕ) → refusal s.settings s.number s.reading (cs i) e ≡ n →
-      Fit (if_good n s (cs i) e).station (sent_by i (if_good n s (cs i) e).answer ++ w.up)
+  on_refusal : (e : Event) → Came w.down e → (v : Verdict) → refusal s.settings s.number s.reading (cs i) e ≡ v →
+      Fit (if_good v s (cs i) e).station (sent_by i (if_good v s (cs i) e).answer ++ w.up)
   unfolding if_good sent_by
-  on_refusal e c zero q =
+  on_refusal e c (Ok _) q =
       let x = expire s (cs i) in
       let k = heard s (cs i) e q in
       let E = expired s (cs i) fit (is_over s (cs i)) in
       let l : profile_for e < length x.holds = omega (arith, (heard_profile s (cs i) e k).1, E.0.own.holds) in
       let to : station_of i e ≡ i = subst (λ (n : ℕ). station_of n e ≡ n) (I.own i here).number k.mine in
       on_forbidden x E.0 E.1 e c l to (forbids x e) refl _ _
-  on_refusal e c (suc n) q = fit
+  on_refusal e c (Err r) q = fit
 
   pub event_sound : (e : Event) → Came w.down e → Sound z (with_room w i (step s (cs i) e)) h cs
   unfolding step

@@ -8,9 +8,11 @@ use mathlib.Core.Logic.{◌⊎◌, inl, inr}
 use Prim.Native.Nat.{ℕ, zero, suc, ◌+◌, ◌-◌, ◌*◌, ◌<◌, ◌≤◌, zero-le}
 use native.Mathlib.Nat.{mul-le-mul_right, lt_of_mul-lt-mul_right}
 use native.Mathlib.Omega.{arith}
+use Rattle.std.proofs.Common.{None, Ok}
 use lib.Dec.{ltb}
 use lib.ListN.{get_or, replicate}
 use borrow.Author.Tests.{ltb-true}
+use Rattle.refusals.specs.Refusal.{Verdict}
 use Rattle.record.specs.declared.message.Message.{Message}
 use Rattle.modes.specs.Modes.{covers, goes_with, is_mode}
 use Rattle.modes.proofs.Laws.{both_covered_go}
@@ -18,12 +20,9 @@ use Rattle.timing.specs.declared.settings.Settings.{Settings}
 use Rattle.timing.specs.Settings.{lease, in_range, Rate}
 use Rattle.timing.proofs.Ranges.{ranges}
 use Rattle.timing.proofs.Wait.{rate_sum, wait_enough, wait_sharp}
-use Rattle.members.specs.declared.member.Status.TheVariants.{Unknown}
-use Rattle.server.specs.State.{new_server, nobody, status_of, mode_of as server_mode}
+use Rattle.server.specs.State.{Unknown, new_server, nobody, status_of, mode_of as server_mode}
 use Rattle.server.proofs.Reachable.{new_unknown, new_nothing, sound_new}
 use Rattle.station.specs.declared.station.Station.{Station}
-use Rattle.station.specs.declared.event.UseAnswer.TheVariants.{Yes}
-use Rattle.room.specs.declared.event.Waiting.TheVariants.{Nothing}
 use Rattle.holds.specs.Stage.{is_out}
 use Rattle.room.specs.Refusal.{use_refusal}
 use Rattle.station.specs.Station.{new_station, mode_of, lease_of, usable, if_use, may_use}
@@ -42,7 +41,7 @@ abbrev slot₀ : Slot
 slot₀ = record { last = 0; status = Unknown; mode = λ p. 0 }
 
 abbrev seat₀ : Seat
-seat₀ = record { out = true; start = 0; last = 0; waiting = Nothing; mode = λ p. 0 }
+seat₀ = record { out = true; start = 0; last = 0; waiting = None; mode = λ p. 0 }
 
 inv₀ : (L : ℕ) (U D : Message → Type 0) (P : ℕ → ℕ → Type 0) → ((m : Message) → U m → ⊥) → ((m : Message) → D m → ⊥) → Inv L slot₀ seat₀ U D P 0
 inv₀ L U D P nu nd = record {
@@ -50,10 +49,10 @@ inv₀ L U D P nu nd = record {
   heard = zero-le;
   down_old = λ m d. absurd (nd m d);
   started = zero-le;
-  sent_at_lem = λ q t e. let k : ◌≡◌ {A = ℕ} 0 1 = cc in absurd (omega arith);
+  sent_at_lem = λ q e. grind arith;
   lease = λ o. absurd (true≢false o);
   cover = λ o. absurd (true≢false o);
-  reply = λ q t e b m d. absurd (nd m d);
+  reply = λ q e b m d. absurd (nd m d);
   released = λ m u k b. refl;
   greeted = λ m u k b. refl;
   empty = λ o p. refl;
@@ -70,7 +69,7 @@ slot_first z i = λ j. record { last = (all_same 16 i nobody j).last; status = n
 
 seat_first : (z : Settings) (i : ℕ) → seat_of ((world_at_first z).rooms i) ≡ seat₀
 unfolding world_at_first new_station
-seat_first z i = λ j. record { out = true; start = 0; last = 0; waiting = Nothing; mode = λ p. (none_held p j).mode.0 }
+seat_first z i = λ j. record { out = true; start = 0; last = 0; waiting = None; mode = λ p. (none_held p j).mode.0 }
 
 -- "own numbers"
 own_first : (z : Settings) (i : ℕ) → Own z i ((world_at_first z).rooms i)
@@ -88,12 +87,10 @@ unfolding world_at_first
 sound_first z = record { pair = λ i b. pair_first z i; own = λ i b. own_first z i; server = sound_new z }
 
 -- A room that may use a profile is not out, its lease lasts, and it holds a mode.
-may_use_lem : (n : ℕ) (b : Bool) → if_use n b ≡ Yes → b ≡ true
-may_use_lem zero true e = refl
-may_use_lem zero false e = let k : ◌≡◌ {A = ℕ} 0 1 = cc in absurd (omega arith)
-may_use_lem (suc n) b e = let k : ◌≡◌ {A = ℕ} 0 1 = cc in absurd (omega arith)
+may_use_lem : (v : Verdict) (b : Bool) → if_use v b ≡ Ok true → b ≡ true
+may_use_lem v b e = grind arith
 
-pub usable_of : (s : Station) (now p : ℕ) → may_use s now p ≡ Yes → usable s now p ≡ true
+pub usable_of : (s : Station) (now p : ℕ) → may_use s now p ≡ Ok true → usable s now p ≡ true
 unfolding may_use
 usable_of s now p e = may_use_lem (use_refusal s.settings s.number s.reading now p) (usable s now p) e
 
@@ -102,7 +99,7 @@ unfolding is_mode
 none_is_no_mode n e h = false≢true (rw e at h)
 
 -- what the server has then covers what the room uses
-covered : (z : Settings) (w : World) (h : List Moment) (cs : ℕ → ℕ) → Sound z w h cs → (i p : ℕ) → i < z.stations → may_use (w.rooms i) (cs i) p ≡ Yes →
+covered : (z : Settings) (w : World) (h : List Moment) (cs : ℕ → ℕ) → Sound z w h cs → (i p : ℕ) → i < z.stations → may_use (w.rooms i) (cs i) p ≡ Ok true →
     covers (server_mode w.server i p) (mode_of (w.rooms i) p) ≡ true
 covered z w h cs I i p b u = by_test (is_out (w.rooms i).standing) refl
   where

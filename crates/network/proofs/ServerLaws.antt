@@ -3,14 +3,14 @@
 use mathlib.Core.Path.{◌≡◌, refl, ap}
 use mathlib.Core.Bool.{true}
 use Prim.Native.Nat.{ℕ, ◌<◌, ◌≤◌}
+use Rattle.std.proofs.Common.{Ok}
 use borrow.Author.Tests.{le-ltb}
+use Rattle.refusals.specs.Refusal.{Verdict}
 use Rattle.timing.specs.Limits.{reading_limit}
 use Rattle.timing.specs.declared.settings.Settings.{Settings}
 use Rattle.timing.specs.Settings.{in_range}
 use Rattle.server.specs.declared.server.Server.{Server}
-use Rattle.judging.specs.declared.event.Event.{Event}
-use Rattle.judging.specs.declared.event.Event.TheVariants.{Message, Tick}
-use Rattle.requests.specs.declared.Request.{Request}
+use Rattle.server.specs.Event.{Event, Message, Tick, Request}
 use Rattle.server.specs.State.{member_at, profile_at, last_of, status_of}
 use Rattle.profiles.specs.Sets.{live_set}
 use Rattle.hearing.specs.Hear.{by_status, numbered}
@@ -20,16 +20,16 @@ use Rattle.server.specs.Step.{after_heard, tick, if_good, step}
 use Rattle.server.proofs.Heard.{judged}
 
 module _ (z : Settings) (good : in_range z ≡ true) where
-  pub free : (last now : ℕ) (e : Event) → event_refusal z e ≡ 0 → now ≤ reading_limit → last ≤ now → refusal z last now e ≡ 0
+  pub free : (last now : ℕ) (e : Event) → event_refusal z e ≡ Ok tt → now ≤ reading_limit → last ≤ now → refusal z last now e ≡ Ok tt
   unfolding refusal
   free last now e named top on = rw (good, named, le-ltb reading_limit now top, le-ltb now last on)
 
 module _ (wait : ℕ) (s : Server) (now : ℕ) where
-  pub ticked : refusal s.settings s.reading now Tick ≡ 0 → step wait s now Tick ≡ tick wait s now
+  pub ticked : refusal s.settings s.reading now Tick ≡ Ok tt → step wait s now Tick ≡ tick wait s now
   unfolding step
-  ticked free = ap (λ (n : ℕ). if_good n wait s now Tick) free
+  ticked free = ap (λ (v : Verdict). if_good v wait s now Tick) free
 
-  pub heard : (i number : ℕ) (q : Request) → refusal s.settings s.reading now (Message i number q) ≡ 0 → last_of s i < number →
+  pub heard : (i number : ℕ) (q : Request) → refusal s.settings s.reading now (Message i number q) ≡ Ok tt → last_of s i < number →
       step wait s now (Message i number q)
       ≡ after_heard s now i (profile_of q)
       (by_status (status_of s i) (live_set s.members) now i q (numbered number (member_at s i)) (profile_at s (profile_of q)))

@@ -1,30 +1,25 @@
 -- Permitted histories, made step by step: what server and rooms are at their end, and what is known of all their moments.
 -- Assumes nothing.
 use mathlib.Core.Path.{◌≡◌, refl, sym, subst, ap, ◌∙◌}
-use mathlib.Core.Bool.{Bool, true, false, cond}
+use mathlib.Core.Bool.{Bool, true, cond}
 use mathlib.Core.List.Memᴰ
 use mathlib.Core.List.{List, [], ◌∷◌, ◌++◌, Memᴰ}
 use mathlib.Core.Logic.{◌⊎◌, inl, inr}
 use Prim.Native.Nat.{ℕ, ◌<◌}
+use Rattle.std.proofs.Common.{Option, Some, arith}
 use borrow.Author.Tests.{eq-eqb}
 use lib.Dec.{eqb}
 use Rattle.record.specs.declared.message.Message.{Message}
 use Rattle.timing.specs.declared.settings.Settings.{Settings}
 use Rattle.server.specs.declared.server.Server.{Server}
 use Rattle.server.specs.declared.server.Served.{Served}
-use Rattle.judging.specs.declared.event.Event.{Event as ServerEvent}
+use Rattle.server.specs.Event.{Event as ServerEvent, Request}
 use Rattle.judging.specs.declared.event.Event.TheVariants as server
-use Rattle.server.specs.declared.border.Meant.{Meant as ToServer}
-use Rattle.server.specs.declared.border.Meant.TheVariants as to_server
 use Rattle.server.specs.Step.{step as server_step}
 use Rattle.server.specs.Border.{sent_for, event_of as server_event}
 use Rattle.station.specs.declared.station.Station.{Station}
 use Rattle.station.specs.declared.station.Stepped.{Stepped}
-use Rattle.room.specs.declared.event.Event.{Event as RoomEvent}
-use Rattle.room.specs.declared.event.Event.TheVariants.{Send}
-use Rattle.requests.specs.declared.Request.{Request}
-use Rattle.station.specs.declared.border.Meant.{Meant as ToRoom}
-use Rattle.station.specs.declared.border.Meant.TheVariants as to_room
+use Rattle.station.specs.Event.{Event as RoomEvent, Send}
 use Rattle.station.specs.Station.{step as room_step}
 use Rattle.station.specs.Border.{sent_by, event_of as room_event}
 use Rattle.network.specs.Picture.{World, Moment, Happening, nothing, ticks, hears, gets, does, with_server, with_room, hearing, getting, next, run}
@@ -36,8 +31,7 @@ put i r rooms j = cond (eqb j i) r (rooms j)
 
 -- of two at one place, the later
 again : {A : Type 0} (b : Bool) (p q r r' : A) → r ≡ r' → cond b p (cond b q r) ≡ cond b p r'
-again true p q r r' e = refl
-again false p q r r' e = e
+again b p q r r' e = grind arith
 
 -- what was sent last is among all that was sent
 first_of : {sent rest : List Message} {m : Message} (more : List Message) → sent ≡ m ∷ rest → Memᴰ m (sent ++ more)
@@ -99,30 +93,30 @@ module _ (z : Settings) (w : ℕ) where
         go S (does i e) (here, own) (ap (λ (v : Station). with_room x i (room_step v (cs i) e)) is ∙ ap (λ (v : Stepped). with_room x i v) q)
 
     -- a message reaches the server
-    pub hear : {x : World} → Ends Q x → (m : Message) → Memᴰ m x.up → (s : Server) → x.server ≡ s → (e : ServerEvent) → server_event m ≡ to_server.For e →
+    pub hear : {x : World} → Ends Q x → (m : Message) → Memᴰ m x.up → (s : Server) → x.server ≡ s → (e : ServerEvent) → server_event m ≡ Some e →
         (Y : Served) → server_step w s c e ≡ Y → Ends Q (with_server x Y (sent_for m.station m.number Y.answer))
     unfolding next
     hear {x} S m there s is e meant Y q =
         go S (hears m) there
-        (ap (λ (v : ToServer). hearing w x c m v) meant
+        (ap (λ (v : Option ServerEvent). hearing w x c m v) meant
         ∙ ap (λ (v : Server). with_server x (server_step w v c e) (sent_for m.station m.number (server_step w v c e).answer)) is
         ∙ ap (λ (v : Served). with_server x v (sent_for m.station m.number v.answer)) q)
 
     -- a message reaches a room
-    pub get : {x : World} → Ends Q x → (i : ℕ) (m : Message) → i < z.stations → Memᴰ m x.down → (r : Station) → x.rooms i ≡ r → (e : RoomEvent) → room_event m ≡ to_room.For e →
+    pub get : {x : World} → Ends Q x → (i : ℕ) (m : Message) → i < z.stations → Memᴰ m x.down → (r : Station) → x.rooms i ≡ r → (e : RoomEvent) → room_event m ≡ Some e →
         (X : Stepped) → room_step r (cs i) e ≡ X → Ends Q (with_room x i X)
     unfolding next
     get {x} S i m here there r is e meant X q =
         go S (gets i m) (here, there)
-        (ap (λ (v : ToRoom). getting x i (cs i) v) meant
+        (ap (λ (v : Option RoomEvent). getting x i (cs i) v) meant
         ∙ ap (λ (v : Station). with_room x i (room_step v (cs i) e)) is
         ∙ ap (λ (v : Stepped). with_room x i v) q)
 
     -- one message there, and its ACK back, with no time between
     pub exchange : {s : Server} {rooms : ℕ → Station} → Story Q s rooms → (i : ℕ) → i < z.stations → (q : Request) (m : Message) (X : Stepped) →
         room_step (rooms i) (cs i) (Send q) ≡ X → sent_by X.station.number X.answer ≡ m ∷ [] →
-        (e : ServerEvent) (Y : Served) (m' : Message) (ds : List Message) → server_event m ≡ to_server.For e → server_step w s c e ≡ Y → sent_for m.station m.number Y.answer ≡ m' ∷ ds →
-        (e' : RoomEvent) (X' : Stepped) → room_event m' ≡ to_room.For e' → room_step X.station (cs i) e' ≡ X' →
+        (e : ServerEvent) (Y : Served) (m' : Message) (ds : List Message) → server_event m ≡ Some e → server_step w s c e ≡ Y → sent_for m.station m.number Y.answer ≡ m' ∷ ds →
+        (e' : RoomEvent) (X' : Stepped) → room_event m' ≡ Some e' → room_step X.station (cs i) e' ≡ X' →
         Story Q Y.server (put i X'.station rooms)
     exchange {s} {rooms} S i here q m X x-is m-is e Y m' ds e-is y-is m'-is e' X' e'-is x'-is =
         let E₁ = done S.history i (Send q) here refl (rooms i) (S.rooms_are i) X x-is in
@@ -138,7 +132,7 @@ module _ (z : Settings) (w : ℕ) where
     -- a message there, and its answer left to lie
     pub said : {s : Server} {rooms : ℕ → Station} → Story Q s rooms → (i : ℕ) → i < z.stations → (q : Request) (m : Message) (X : Stepped) →
         room_step (rooms i) (cs i) (Send q) ≡ X → sent_by X.station.number X.answer ≡ m ∷ [] →
-        (e : ServerEvent) (Y : Served) → server_event m ≡ to_server.For e → server_step w s c e ≡ Y →
+        (e : ServerEvent) (Y : Served) → server_event m ≡ Some e → server_step w s c e ≡ Y →
         Story Q Y.server (put i X.station rooms)
     said {s} {rooms} S i here q m X x-is m-is e Y e-is y-is =
         let E₁ = done S.history i (Send q) here refl (rooms i) (S.rooms_are i) X x-is in

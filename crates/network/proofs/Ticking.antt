@@ -3,18 +3,18 @@
 use mathlib.Core.Path.{◌≡◌, refl, sym, subst, ap, ◌∙◌}
 use mathlib.Core.Bool.{Bool, true, false, cond}
 use mathlib.Core.List.{List, []}
-use Prim.Native.Nat.{ℕ, zero, suc, ◌+◌, ◌<◌, ◌≤◌}
+use Prim.Native.Nat.{ℕ, ◌+◌, ◌<◌, ◌≤◌}
 use native.Mathlib.Omega.{arith}
+use Rattle.std.proofs.Common.{Ok, Err}
 use lib.Dec.{leb}
 use borrow.Author.Tests.{leb-true}
+use Rattle.refusals.specs.Refusal.{Verdict}
 use Rattle.timing.specs.declared.settings.Settings.{Settings}
 use Rattle.timing.specs.Settings.{lease}
-use Rattle.members.specs.declared.member.Status.{Status}
-use Rattle.members.specs.declared.member.Status.TheVariants.{Unknown, Live, TimingOut}
+use Rattle.server.specs.State.{Status, Unknown, Live, TimingOut, status_of, mode_of}
 use Rattle.server.specs.declared.server.Server.{Server}
 use Rattle.server.specs.declared.server.Served.{Served}
-use Rattle.judging.specs.declared.event.Event.TheVariants.{Tick}
-use Rattle.server.specs.State.{status_of, mode_of}
+use Rattle.server.specs.Event.{Tick}
 use Rattle.profiles.specs.Sets.{is_waited}
 use Rattle.judging.specs.Refusal.{refusal}
 use Rattle.server.specs.Step.{step}
@@ -73,9 +73,9 @@ module _ (z : Settings) (wait : ℕ) (w : World) (h : List Moment) (cs : ℕ →
         server = step_sound z wait s now Tick I.server;
       }
 
-  on_refusal : (n : ℕ) → refusal s.settings s.reading now Tick ≡ n → Sound z (with_server w (step wait s now Tick) []) h cs
-  on_refusal zero e = ticked e
-  on_refusal (suc n) e = subst (λ (r : Served). Sound z (with_server w r []) h cs) (sym (refused wait s now Tick n e)) I
+  on_refusal : (v : Verdict) → refusal s.settings s.reading now Tick ≡ v → Sound z (with_server w (step wait s now Tick) []) h cs
+  on_refusal (Ok _) e = ticked e
+  on_refusal (Err r) e = subst (λ (t : Served). Sound z (with_server w t []) h cs) (sym (refused wait s now Tick r e)) I
 
   pub tick_sound : Sound z (with_server w (step wait s now Tick) []) h cs
   tick_sound = on_refusal (refusal s.settings s.reading now Tick) refl

@@ -8,13 +8,10 @@ use Rattle.timing.specs.declared.settings.Settings.{Settings}
 use Rattle.timing.specs.Settings.{Rate}
 use Rattle.network.specs.Picture.{Happening, Moment}
 use Rattle.network.specs.Premises.{Clocks}
+use Rattle.network.specs.Examples.{at}
 
 abbrev pub Together : ℕ → Moment → Type 0
 Together t m = (m.server ≤ t) × ((i : ℕ) → m.rooms i ≡ m.server)
-
--- all clocks read t
-abbrev pub at : ℕ → Happening → Moment
-at t e = record { server = t; rooms = λ (i : ℕ). t; what = e }
 
 pub at_together : (t : ℕ) (e : Happening) → Together t (at t e)
 at_together t e = (le_refl t, λ i. refl)

@@ -4,14 +4,13 @@ use mathlib.Core.Path.{◌≡◌, refl, sym, subst, ap, ◌∙◌}
 use mathlib.Core.Bool.{Bool, true, cond}
 use mathlib.Core.List.{List, ◌∷◌}
 use Prim.Native.Nat.{ℕ, ◌<◌}
+use Rattle.std.proofs.Common.{Ok}
 use borrow.Author.Tests.{eq-eqb}
 use Rattle.modes.specs.Modes.{goes_with}
 use Rattle.timing.specs.declared.settings.Settings.{Settings}
 use Rattle.timing.specs.Settings.{in_range, wait}
 use Rattle.station.specs.declared.station.Station.{Station}
-use Rattle.room.specs.declared.event.Event.{Event}
-use Rattle.room.specs.declared.event.Event.TheVariants.{Begin, Edit, WriteOut}
-use Rattle.station.specs.declared.event.UseAnswer.TheVariants.{Yes}
+use Rattle.station.specs.Event.{Event, Begin, Edit, WriteOut}
 use Rattle.station.specs.Station.{mode_of, may_use, step}
 use Rattle.station.proofs.Steps.{is_good}
 use Rattle.station.proofs.Uses.{InUse, begin_uses, edit_uses, write_uses}
@@ -48,13 +47,13 @@ module _ (z : Settings) (good : in_range z ≡ true) (t : Moment) (h : List Mome
     others = λ j b ne u. ap (λ (n : ℕ). goes_with n (mode_at z (wait z) t h j p)) (sym held) ∙ safe_at j b ne u;
   }
     where
-      uses : may_use ((run z (wait z) (t ∷ h)).rooms i) (t.rooms i) p ≡ Yes
+      uses : may_use ((run z (wait z) (t ∷ h)).rooms i) (t.rooms i) p ≡ Ok true
       uses = ap (λ (x : Station). may_use x (t.rooms i) p) room_after ∙ U.uses_after
 
       held : mode_of ((run z (wait z) (t ∷ h)).rooms i) p ≡ held_mode z t h i p
       held = ap (λ (x : Station). mode_of x p) room_after ∙ U.mode_stays
 
-      safe_at : (j : ℕ) → j < z.stations → (i ≡ j → ⊥) → may_use ((run z (wait z) (t ∷ h)).rooms j) (t.rooms j) p ≡ Yes →
+      safe_at : (j : ℕ) → j < z.stations → (i ≡ j → ⊥) → may_use ((run z (wait z) (t ∷ h)).rooms j) (t.rooms j) p ≡ Ok true →
           goes_with (mode_at z (wait z) t h i p) (mode_at z (wait z) t h j p) ≡ true
       safe_at j b ne u = safe z good t h A.permitted i j p here b ne uses u
 

@@ -1,17 +1,16 @@
 -- What is claimed of every permitted history, in the words of condition 3, which are quoted. A moment is the latest of its history; every
 -- moment of a longer one is such a latest.
-use Rattle.std.specs.Prelude.{◌≡◌, true, false, List, ◌∷◌, ℕ, ◌+◌, ◌-◌, ◌*◌, ◌<◌, ◌≤◌}
+use Rattle.std.specs.Prelude.{◌≡◌, true, false, List, ◌∷◌, ℕ, ◌+◌, ◌-◌, ◌*◌, ◌<◌, ◌≤◌, Ok}
 use Rattle.modes.specs.Modes.{goes_with}
 use Rattle.timing.specs.declared.settings.Settings.{Settings}
 use Rattle.timing.specs.Settings.{in_range, lease, wait}
-use Rattle.station.specs.declared.event.UseAnswer.TheVariants.{Yes}
 use Rattle.station.specs.Station.{mode_of, may_use}
 use Rattle.network.specs.Picture.{Moment, run}
 use Rattle.network.specs.Premises.{Permitted}
 
 -- room i may use profile p at the latest moment: the engine's own question says yes
 abbrev pub Uses : Settings → ℕ → Moment → List Moment → ℕ → ℕ → Type 0
-Uses z w t h i p = may_use ((run z w (t ∷ h)).rooms i) (t.rooms i) p ≡ Yes
+Uses z w t h i p = may_use ((run z w (t ∷ h)).rooms i) (t.rooms i) p ≡ Ok true
 
 -- the mode that room i then holds on profile p
 abbrev pub mode_at : Settings → ℕ → Moment → List Moment → ℕ → ℕ → ℕ

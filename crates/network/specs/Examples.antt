@@ -1,19 +1,15 @@
 -- Histories that are permitted, so that no claim about all of them is empty. Phases 4, 2, 2, 2, so the lease is 10; allowance 1/10,
 -- so the wait is 12; answer time 5; two stations, one profile. All clocks read the same, except in the last. A history stands latest first.
-use Rattle.std.specs.Prelude.{◌≡◌, true, false, List, [], ◌∷◌, ℕ, ◌+◌}
+use Rattle.std.specs.Prelude.{◌≡◌, true, false, List, [], ◌∷◌, ℕ, ◌+◌, Some, None, Ok}
 use Rattle.modes.specs.Modes.{mode, R, X}
 use Rattle.record.specs.declared.message.Message.{Message}
 use Rattle.timing.specs.declared.settings.Settings.{Settings}
 use Rattle.timing.specs.Settings.{settings, wait}
-use Rattle.members.specs.declared.member.Status.TheVariants.{Unknown, TimingOut}
-use Rattle.server.specs.State.{status_of, mode_of as granted_to}
-use Rattle.holds.specs.declared.stage.Standing.TheVariants.{Closing}
-use Rattle.requests.specs.declared.Request.TheVariants.{Hello, KeepAlive, Ask, Release}
-use Rattle.room.specs.declared.event.Event.TheVariants.{Send, Begin, Edit, End, WriteOut, Demand}
+use Rattle.timing.specs.declared.settings.Phase.TheVariants.{Third}
+use Rattle.server.specs.State.{Unknown, TimingOut, status_of, mode_of as granted_to}
+use Rattle.station.specs.Event.{Closing, Hello, KeepAlive, Ask, Release, Send, Begin, Edit, End, WriteOut, Demand}
 use Rattle.station.specs.declared.event.Advice.TheVariants as advice
 use Rattle.station.specs.declared.event.Answer.TheVariants as answer
-use Rattle.station.specs.declared.event.PhaseAnswer.TheVariants as phase
-use Rattle.station.specs.declared.event.UseAnswer.TheVariants as use'
 use Rattle.station.specs.Station.{mode_of, unwritten_of, phase_asked, may_use, step}
 use Rattle.record.specs.Message.{message}
 use Rattle.network.specs.Picture.{World, Happening, ticks, hears, gets, does, Moment, run}
@@ -75,9 +71,9 @@ renewed = at 6 (gets 0 (done 0 2)) ∷ at 5 (hears (alive 0 2)) ∷ at 5 (does 0
 pub record Renewed : Type 0 where
   pub permitted : Permitted small (wait small) renewed
   pub first_start : ((after greeted).rooms 0).start ≡ 0
-  pub out_without : phase_asked ((after greeted).rooms 0) 12 ≡ phase.Out
+  pub out_without : phase_asked ((after greeted).rooms 0) 12 ≡ Ok None
   pub new_start : ((after renewed).rooms 0).start ≡ 5
-  pub lasts : phase_asked ((after renewed).rooms 0) 12 ≡ phase.Phase 3
+  pub lasts : phase_asked ((after renewed).rooms 0) 12 ≡ Ok (Some Third)
 
 -- 2: "a demand answered by a release and the mode granted to the other". Station 1 asks R at 1 and is to wait;
 -- the demand reaches room 0 at 2, which releases at 3; station 1 asks again at 4.
@@ -99,10 +95,10 @@ passed_on =
 
 pub record PassedOn : Type 0 where
   pub permitted : Permitted small (wait small) passed_on
-  pub held : may_use ((after demanded).rooms 0) 2 0 ≡ use'.Yes
+  pub held : may_use ((after demanded).rooms 0) 2 0 ≡ Ok true
   pub advised : (step ((after demanded).rooms 0) 2 (Demand 0 0 (mode R))).answer ≡ answer.Advice advice.Release
-  pub given_up : may_use ((after released).rooms 0) 3 0 ≡ use'.No
-  pub other_uses : may_use ((after passed_on).rooms 1) 4 0 ≡ use'.Yes
+  pub given_up : may_use ((after released).rooms 0) 3 0 ≡ Ok false
+  pub other_uses : may_use ((after passed_on).rooms 1) 4 0 ≡ Ok true
   pub in_mode : mode_of ((after passed_on).rooms 1) 0 ≡ R
 
 -- 3: "a silent holder timed out, freed, and its profile granted". Station 1 asks R at 3; the tick at 8 starts timing station 0 out,
@@ -132,9 +128,9 @@ pub record TakenOver : Type 0 where
   pub still_held : granted_to (after not_yet).server 0 0 ≡ X
   pub unknown : status_of (after freed).server 0 ≡ Unknown
   pub gone : granted_to (after freed).server 0 0 ≡ 0
-  pub other_uses : may_use ((after taken_over).rooms 1) 20 0 ≡ use'.Yes
+  pub other_uses : may_use ((after taken_over).rooms 1) 20 0 ≡ Ok true
   pub in_mode : mode_of ((after taken_over).rooms 1) 0 ≡ R
-  pub no_longer : may_use ((after taken_over).rooms 0) 20 0 ≡ use'.No
+  pub no_longer : may_use ((after taken_over).rooms 0) 20 0 ≡ Ok false
 
 -- 4: "a NACKed room closing and writing out in time". Room 0 edits at 1 and does not answer the demand of 1; its keep-alive, sent at 5,
 -- is heard only after the tick at 6 and is NACKed; the room closes at 7 and writes out at 8, before its lease ends at 10.
@@ -153,7 +149,7 @@ pub record Written : Type 0 where
   pub closes : ((after closing).rooms 0).standing ≡ Closing
   pub unwritten : unwritten_of ((after closing).rooms 0) 0 ≡ true
   pub lost_without : (step ((after closing).rooms 0) 10 (Send Hello)).lost ≡ 1
-  pub still_held : may_use ((after written).rooms 0) 8 0 ≡ use'.Yes
+  pub still_held : may_use ((after written).rooms 0) 8 0 ≡ Ok true
   pub all_written : unwritten_of ((after written).rooms 0) 0 ≡ false
   pub none_lost : (step ((after written).rooms 0) 10 (Send Hello)).lost ≡ 0
 
@@ -187,10 +183,10 @@ overtaken =
 pub record Overtaken : Type 0 where
   pub permitted : Permitted small (wait small) overtaken
   pub times_out : status_of (after nearly).server 0 ≡ TimingOut 8
-  pub still_uses : may_use ((after nearly).rooms 0) 17 0 ≡ use'.Yes
+  pub still_uses : may_use ((after nearly).rooms 0) 17 0 ≡ Ok true
   pub still_held : granted_to (after nearly).server 0 0 ≡ X
   pub too_early : status_of (run small 11 nearly).server 0 ≡ Unknown
   pub unknown : status_of (after passed_by).server 0 ≡ Unknown
-  pub no_longer : may_use ((after passed_by).rooms 0) 18 0 ≡ use'.No
-  pub other_uses : may_use ((after overtaken).rooms 1) 18 0 ≡ use'.Yes
+  pub no_longer : may_use ((after passed_by).rooms 0) 18 0 ≡ Ok false
+  pub other_uses : may_use ((after overtaken).rooms 1) 18 0 ≡ Ok true
   pub in_mode : mode_of ((after overtaken).rooms 1) 0 ≡ R

@@ -1,21 +1,17 @@
 -- The network picture: one server, its rooms, and all that was ever sent. Nothing is modelled a second time: server and rooms are
 -- the engines' own steps, and what travels is the message of the record.
-use Rattle.std.specs.Prelude.{cond, List, [], ◌∷◌, ◌++◌, ℕ, eqb}
+use Rattle.std.specs.Prelude.{cond, List, [], ◌∷◌, ◌++◌, ℕ, eqb, Option, Some, None}
 use Rattle.record.specs.declared.message.Message.{Message}
 use Rattle.timing.specs.declared.settings.Settings.{Settings}
 use Rattle.server.specs.declared.server.Server.{Server}
 use Rattle.server.specs.declared.server.Served.{Served}
-use Rattle.judging.specs.declared.event.Event.TheVariants as server
-use Rattle.server.specs.declared.border.Meant.{Meant as ToServer}
-use Rattle.server.specs.declared.border.Meant.TheVariants as to_server
+use Rattle.server.specs.Event.{Event as ServerEvent, Tick}
 use Rattle.server.specs.State.{new_server}
 use Rattle.server.specs.Step.{step as server_step}
 use Rattle.server.specs.Border.{sent_for, event_of as server_event}
 use Rattle.station.specs.declared.station.Station.{Station}
 use Rattle.station.specs.declared.station.Stepped.{Stepped}
-use Rattle.room.specs.declared.event.Event.{Event}
-use Rattle.station.specs.declared.border.Meant.{Meant as ToRoom}
-use Rattle.station.specs.declared.border.Meant.TheVariants as to_room
+use Rattle.station.specs.Event.{Event}
 use Rattle.station.specs.Station.{new_station, step as room_step}
 use Rattle.station.specs.Border.{sent_by, event_of as room_event}
 
@@ -60,20 +56,20 @@ with_room w i x =
     }
 
 -- the server takes a message of its kinds, and drops any other
-abbrev pub hearing : ℕ → World → ℕ → Message → ToServer → World
-hearing wait w now m (to_server.For e) =
+abbrev pub hearing : ℕ → World → ℕ → Message → Option ServerEvent → World
+hearing wait w now m (Some e) =
     with_server w (server_step wait w.server now e) (sent_for m.station m.number (server_step wait w.server now e).answer)
-hearing wait w now m to_server.NotForServer = w
+hearing wait w now m None = w
 
 -- and so does a room
-abbrev pub getting : World → ℕ → ℕ → ToRoom → World
-getting w i now (to_room.For e) = with_room w i (room_step (w.rooms i) now e)
-getting w i now to_room.NotForRoom = w
+abbrev pub getting : World → ℕ → ℕ → Option Event → World
+getting w i now (Some e) = with_room w i (room_step (w.rooms i) now e)
+getting w i now None = w
 
 -- "true readings": each engine is told what its own clock reads at that moment
 unfoldable pub next : ℕ → World → Moment → Happening → World
 next wait w t nothing = w
-next wait w t ticks = with_server w (server_step wait w.server t.server server.Tick) []
+next wait w t ticks = with_server w (server_step wait w.server t.server Tick) []
 next wait w t (hears m) = hearing wait w t.server m (server_event m)
 next wait w t (gets i m) = getting w i (t.rooms i) (room_event m)
 next wait w t (does i e) = with_room w i (room_step (w.rooms i) (t.rooms i) e)

@@ -4,8 +4,7 @@ use Rattle.std.specs.Prelude.{◌≡◌, Bool, true, false, ℕ, ◌-◌, ◌<�
 use mathlib.Core.List.{List, [], ◌∷◌, Memᴰ}
 use Rattle.timing.specs.declared.settings.Settings.{Settings}
 use Rattle.timing.specs.Settings.{RateRule}
-use Rattle.room.specs.declared.event.Event.{Event}
-use Rattle.room.specs.declared.event.Event.TheVariants.{Send, Begin, Edit, End, WriteOut, Restart, Ack as Acked, Nack as Nacked, Demand}
+use Rattle.station.specs.Event.{Event, Send, Begin, Edit, End, WriteOut, Restart, Acked, Nacked, Demand}
 use Rattle.network.specs.Picture.{World, Happening, nothing, ticks, hears, gets, does, asks, Moment, run}
 
 -- An earlier and a later moment, at the server's clock and at the clock of room i.

@@ -4,8 +4,7 @@ use Rattle.modes.specs.Modes.{goes_with, covers, writes}
 use Rattle.modes.specs.declared.Mode.{Mode}
 use Rattle.timing.specs.declared.settings.Settings.{Settings}
 use Rattle.timing.specs.Settings.{in_range, wait}
-use Rattle.room.specs.declared.event.Event.{Event}
-use Rattle.room.specs.declared.event.Event.TheVariants.{Begin, Edit, WriteOut}
+use Rattle.station.specs.Event.{Event, Begin, Edit, WriteOut}
 use Rattle.station.specs.declared.event.Answer.TheVariants.{Done}
 use Rattle.station.specs.Station.{mode_of, step}
 use Rattle.network.specs.Picture.{does, Moment, run}

@@ -1,4 +1,5 @@
 // What all streams have in common.
+use refusals::Refusal;
 use timing::settings::Settings;
 
 // The most stations and profiles, and an answer time that no stream reaches.
@@ -19,4 +20,9 @@ pub(crate) fn settings() -> Settings {
 // Counted up for ever; from the highest number of a message on, again from 0.
 pub(crate) fn number(n: u64) -> u32 {
     (n % 4_294_967_296) as u32
+}
+
+// What a refusal adds to a sum.
+pub(crate) fn refused(refusal: Refusal) -> u64 {
+    100 + u64::from(refusal.number())
 }

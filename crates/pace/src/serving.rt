@@ -1,60 +1,78 @@
 // Streams for the server: in place, and by value.
-ghost use Rattle.std.specs.Prelude.{◌≤◌, ◌<◌};
-
 use crate::ground;
-use crate::sums::next;
+use crate::kind::Unlisted;
+use crate::sums::Sum;
 use modes::Mode;
 use server::event::{Answer, Event, Request};
 use server::server::{Server, step_in};
 
-// Kinds.
-const TICK: u64 = 0;
+#[derive(Clone, Copy, PartialEq, Eq)]
+pub(crate) enum Stream {
+    Tick,
+    KeepAlive,
+    Hello,
+    // An ask that is granted, and one that all others stand in the way of.
+    Ask,
+    Wait,
+    Release,
+    Keep,
+    // Refused by 3, before anything is looked at, and by 7.
+    Refused,
+    Stale,
+    // A tick with a demanded mark of every station on every profile.
+    MarkedTick,
+}
 
-const KEEP_ALIVE: u64 = 1;
+impl TryFrom<u64> for Stream {
+    type Error = Unlisted;
 
-const HELLO: u64 = 2;
-// An ask that is granted, and one that all others stand in the way of.
-const ASK: u64 = 3;
+    fn try_from(kind: u64) -> Result<Self, Unlisted> {
+        match kind {
+            0 => Ok(Stream::Tick),
+            1 => Ok(Stream::KeepAlive),
+            2 => Ok(Stream::Hello),
+            3 => Ok(Stream::Ask),
+            4 => Ok(Stream::Wait),
+            5 => Ok(Stream::Release),
+            6 => Ok(Stream::Keep),
+            7 => Ok(Stream::Refused),
+            8 => Ok(Stream::Stale),
+            9 => Ok(Stream::MarkedTick),
+            _ => Err(Unlisted),
+        }
+    }
+}
 
-const WAIT: u64 = 4;
+impl Stream {
+    fn event(self, n: u64) -> Event {
+        let profile = (n / 16 % 64) as u8;
+        match self {
+            Stream::Tick | Stream::MarkedTick => Event::Tick,
+            Stream::KeepAlive => message(n, Request::KeepAlive),
+            Stream::Hello => hello(n),
+            Stream::Ask => message(n, Request::Ask(profile, Mode::R)),
+            Stream::Wait => message(n, Request::Ask(profile, Mode::X)),
+            Stream::Release => message(n, Request::Release(profile)),
+            Stream::Keep => message(n, Request::Keep(profile)),
+            Stream::Refused => message(n, Request::Ask(64, Mode::R)),
+            Stream::Stale => Event::Message((n % 16) as u8, 0, Request::KeepAlive),
+        }
+    }
 
-const RELEASE: u64 = 5;
-
-const KEEP: u64 = 6;
-// Refused by 3, before anything is looked at, and by 7.
-const REFUSED: u64 = 7;
-
-const STALE: u64 = 8;
-// A tick with a demanded mark of every station on every profile.
-const MARKED_TICK: u64 = 9;
-// From here on the same by value.
-const BY_VALUE: u64 = 10;
+    // Behind what makes the server ready. Far beyond any count that can be waited for, the stream begins again.
+    fn streamed(self, n: u64) -> Event {
+        self.event(n % 1_000_000_000_000_000 + START)
+    }
+}
 
 // Stations and numbers in turn: each number is above the station's last one.
 fn message(n: u64, request: Request) -> Event {
-    let number = ground::number(n / 16 + 1);
-    Event::Message((n % 16) as u8, number, request)
+    Event::Message((n % 16) as u8, ground::number(n / 16 + 1), request)
 }
 
 // Half of the stations say hello again and again, while the others hold what they hold.
 fn hello(n: u64) -> Event {
-    let number = ground::number(n / 8 + 1);
-    Event::Message((n % 8) as u8, number, Request::Hello)
-}
-
-fn event_of(kind: u64, n: u64) -> Event {
-    let profile = (n / 16 % 64) as u8;
-    match kind {
-        KEEP_ALIVE => message(n, Request::KeepAlive),
-        HELLO => hello(n),
-        ASK => message(n, Request::Ask(profile, Mode::R)),
-        WAIT => message(n, Request::Ask(profile, Mode::X)),
-        RELEASE => message(n, Request::Release(profile)),
-        KEEP => message(n, Request::Keep(profile)),
-        REFUSED => message(n, Request::Ask(64, Mode::R)),
-        STALE => Event::Message((n % 16) as u8, 0, Request::KeepAlive),
-        _ => Event::Tick,
-    }
+    Event::Message((n % 8) as u8, ground::number(n / 8 + 1), Request::Hello)
 }
 
 // A tick of the clock for so many events.
@@ -65,19 +83,13 @@ fn reading_of(n: u64) -> u64 {
 fn value_of(answer: Answer) -> u64 {
     match answer {
         Answer::Done => 1,
-        Answer::Granted(_, mode) => 10 + mode.0 as u64,
-        Answer::Wait(_, _, mask, count) => mask % 65_536 + count as u64,
+        Answer::Granted(_, mode) => 10 + u64::from(mode.0),
+        Answer::Wait(_, _, mask, count) => mask % 65_536 + u64::from(count),
         Answer::InUse(_) => 2,
-        Answer::Nack(detail) => 3 + detail as u64,
+        Answer::Nack(detail) => 3 + u64::from(detail),
         Answer::Ticked(freed, started) => 5 + freed % 65_536 + started % 65_536,
-        Answer::Refused(code) => 100 + code as u64,
+        Answer::Refused(refusal) => ground::refused(refusal),
     }
-}
-
-fn added(sum: u64, answer: Answer) -> u64
-    ensures { result < 1000003 }
-{
-    next(sum, value_of(answer))
 }
 
 // Where each station has said hello, where each holds R everywhere, and where each has been in another's way there.
@@ -96,75 +108,38 @@ fn readying(n: u64) -> Event {
         return message(n, Request::Hello);
     }
     if n < HOLDING {
-        return event_of(ASK, n);
+        return Stream::Ask.event(n);
     }
-    event_of(WAIT, n)
+    Stream::Wait.event(n)
 }
 
-// How many of them: without the asks for X nobody is marked.
-fn end_of(marked: bool) -> u64
-    ensures { result ≤ 3088 }
-{
-    if marked { MARKED } else { HOLDING }
-}
-
-// All stations live, and each holding R on every profile; where they are to be marked, each has been in another's way.
-fn ready(marked: bool) -> Server {
+// All stations live, and each holding R on every profile. Without the asks for X nobody is marked.
+fn ready(stream: Stream) -> Server {
+    let end = if stream == Stream::MarkedTick {
+        MARKED
+    } else {
+        HOLDING
+    };
     let mut server = Server::new(ground::settings()).server;
-    let end = end_of(marked);
-    let mut n: u64 = 0;
-    while n < end {
-        let after = server.step(0, readying(n));
-        server = after.server;
-        n += 1;
+    for n in 0..end {
+        step_in(&mut server, 0, readying(n));
     }
     server
 }
 
-// Far beyond any count that can be waited for, the stream begins again.
-fn streamed(kind: u64, n: u64) -> Event {
-    event_of(kind, n % 1_000_000_000_000_000 + START)
-}
-
 // Over a server that stays where it is.
-fn pump(server: &mut Server, kind: u64, count: u64) -> u64
-    ensures { result < 1000003 }
-{
-    let mut sum: u64 = 0;
-    let mut n: u64 = 0;
-    while n < count {
-        let event = streamed(kind, n);
-        let answer = step_in(&mut *server, reading_of(n), event);
-        sum = added(sum, answer);
-        n += 1;
-    }
-    sum
+pub(crate) fn in_place(stream: Stream, count: u64) -> Sum {
+    let mut server = ready(stream);
+    Sum::of(count, |n| {
+        value_of(step_in(&mut server, reading_of(n), stream.streamed(n)))
+    })
 }
 
-fn in_place(kind: u64, count: u64) -> u64
-    ensures { result < 1000003 }
-{
-    let mut server = ready(kind == MARKED_TICK);
-    pump(&mut server, kind, count)
-}
-
-fn by_value(kind: u64, count: u64) -> u64 {
-    let mut server = ready(kind == MARKED_TICK);
-    let mut sum: u64 = 0;
-    let mut n: u64 = 0;
-    while n < count {
-        let after = server.step(reading_of(n), streamed(kind, n));
+pub(crate) fn by_value(stream: Stream, count: u64) -> Sum {
+    let mut server = ready(stream);
+    Sum::of(count, |n| {
+        let after = server.step(reading_of(n), stream.streamed(n));
         server = after.server;
-        let answer = after.answer;
-        sum = added(sum, answer);
-        n += 1;
-    }
-    sum
-}
-
-pub(crate) fn sum_of(kind: u64, count: u64) -> u64 {
-    if kind < BY_VALUE {
-        return in_place(kind, count);
-    }
-    by_value(kind - BY_VALUE, count)
+        value_of(after.answer)
+    })
 }

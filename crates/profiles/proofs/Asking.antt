@@ -1,9 +1,10 @@
 -- Each way through the ask rule, from what the code's masks tell.
 -- Assumes nothing.
-use mathlib.Core.Path.{◌≡◌, refl, sym, ap, ◌∙◌}
+use mathlib.Core.Path.{◌≡◌, sym, ap, ◌∙◌}
 use mathlib.Core.Bool.{Bool, true, false}
 use mathlib.Core.List.{List}
 use Prim.Native.Nat.{ℕ}
+use native.Mathlib.Omega.{arith}
 use lib.Bits.{bit_and}
 use lib.Count.{ones}
 use lib.ListN.{length, get_or, set}
@@ -17,11 +18,7 @@ use Rattle.profiles.specs.Sets.{everyone, conflicts, is_kept, marks_with, marks_
 use Rattle.profiles.specs.Ask.{Granted, InUse, Wait, wanted_by, in_the_way, free_or_not, kept_or_wait, ask_rule}
 
 some_mask : (s : Set) → (mask s ≡ 0 → ⊥) → any s ≡ true
-some_mask s h = by_test (any s) refl
-  where
-    by_test : (t : Bool) → any s ≡ t → any s ≡ true
-    by_test true e = e
-    by_test false e = absurd (h (mask_none s e))
+some_mask s h = grind (arith, mask_none)
 
 module _ (live : Set) (number now me asked : ℕ) (x : Profile) (held : Mode) (is_held_lem : held ≡ get_or x.row me (mode 0)) (wanted : Mode) (is-wanted : wanted ≡ mode (join held.0 asked)) (m : ℕ) (is-mask : m ≡ mask (conflicts me wanted.0 x.row)) where
   want : wanted ≡ mode (wanted_by x me asked)

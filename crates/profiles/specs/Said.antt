@@ -1,5 +1,6 @@
 -- An answer in the paper's numbers and values.
 use Rattle.std.specs.Prelude.{Bool, true, false, ℕ}
+use Rattle.refusals.specs.Refusal.{number}
 use Rattle.profiles.specs.Ask.{Answer, Done, Granted, Wait, InUse, Nack, Ticked, Refused}
 
 -- whether it is no refusal; the refusal; kind, profile, mode and detail of the message to the asker (kind 0: none is sent);
@@ -75,4 +76,4 @@ said (Wait p m mask count) = ack p 0 2 m.0 mask count
 said (InUse p) = ack p 0 3 0 0 0
 said (Nack d) = nack d
 said (Ticked freed started) = silent true 0 freed started
-said (Refused n) = silent false n 0 0
+said (Refused r) = silent false (number r) 0 0

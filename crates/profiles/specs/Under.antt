@@ -1,18 +1,15 @@
 -- What the code's own helpers answer on a profile: the rules' sets by their masks.
 -- No rule stands here: `proofs/Under.antt` leads each back to the rules' own definitions.
-use Rattle.std.specs.Prelude.{Bool, not, ◌&&◌, ◌||◌, ℕ, ◌%◌, eqb}
+use Rattle.std.specs.Prelude.{Bool, not, ◌||◌, ℕ, eqb}
 use Rattle.masks.specs.Mask.{change_under, some_under}
 use Rattle.modes.specs.declared.Mode.{Mode}
 use Rattle.members.specs.Mark.{is_marked}
 use Rattle.profiles.specs.Profile.{Profile}
 use Rattle.profiles.specs.Sets.{wipe_mark, keep_mark, remark, no_mode}
 
--- a mode is held, and that under the lowest bit
+-- a mode is held
 abbrev pub is_held : Mode → Bool
 is_held m = not (eqb m.0 0)
-
-abbrev pub held_test : ℕ → Mode → Bool
-held_test w m = eqb (w % 2) 1 && is_held m
 
 unfoldable pub wiped_under : ℕ → Profile → Profile
 wiped_under w x =

@@ -9,42 +9,49 @@ use crate::answer::Answer;
 use crate::profile::Profile;
 use crate::row;
 use members::mark;
-use members::mark::{Change, EVERYONE, Which};
+use members::mark::EVERYONE;
 use modes::Mode;
 
-#[derive(Clone, Copy)]
+// What the rule leaves and answers.
+// Kept: a type of its own, as `Served` of `server` and `Outcome` of `station`, since its field says what was left.
+#[derive(Clone, Copy, Debug, PartialEq, Eq)]
 pub struct Ruled {
     pub profile: Profile,
     pub answer: Answer,
 }
 
 // `number` is the profile's; `live` is the set of the live stations.
+// Kept: six values, since `Seen` of `hearing`, which has most of them together, stands above this crate.
 pub fn ask(profile: Profile, number: u8, live: u64, me: usize, asked: Mode, now: u64) -> Ruled
     ensures { (result.profile ≡ (ask_rule (set_of most_stations live) number now me asked.0 profile).profile) × (said result.answer ≡ said (ask_rule (set_of most_stations live) number now me asked.0 profile).answer) }
 {
-    let modes = profile.row;
-    let marks = profile.marks;
-    let wanted = row::held(modes, me).join(asked);
-    let conflicts = row::conflicts(modes, me, wanted);
+    let wanted = row::held(profile.row, me).join(asked);
+    let conflicts = row::conflicts(profile.row, me, wanted);
     if conflicts == 0 {
-        let row = row::with_mode(modes, me, wanted);
         return Ruled {
-            profile: Profile { row, marks },
+            profile: Profile {
+                row: row::with_mode(profile.row, me, wanted),
+                ..profile
+            },
             answer: Answer::Granted(number, wanted),
         };
     }
-    let kept = mark::marks_in(marks, Which::Kept);
+    let kept = mark::marks_in(profile.marks, |mark| mark.is_kept());
     if conflicts & kept != 0 {
-        let marks = mark::change_in(marks, EVERYONE, Change::DropKept);
         return Ruled {
-            profile: Profile { row: modes, marks },
+            profile: Profile {
+                marks: mark::change_in(profile.marks, EVERYONE, |mark| mark.without_kept()),
+                ..profile
+            },
             answer: Answer::InUse(number),
         };
     }
     let demanded = conflicts & live;
-    let marks = mark::change_in(marks, demanded, Change::Demand(now));
     Ruled {
-        profile: Profile { row: modes, marks },
+        profile: Profile {
+            marks: mark::change_in(profile.marks, demanded, |mark| mark.demanded(now)),
+            ..profile
+        },
         answer: Answer::Wait(number, wanted, demanded, masks::count(demanded)),
     }
 }

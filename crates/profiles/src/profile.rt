@@ -6,72 +6,65 @@ ghost use Rattle.profiles.specs.Sets.{is_late, marks_with};
 ghost use Rattle.profiles.specs.Under.{wiped_under, kept_under, touched_under};
 
 use crate::row;
+use crate::row::Row;
 use members::mark;
-use members::mark::{Change, EVERYONE, Mark, Marked, Which};
+use members::mark::{Mark, Marked, Marks};
 use modes::Mode;
 use timing::settings::Settings;
 
-#[derive(Clone, Copy)]
+// Kept: two arrays side by side: a mode and a mark in one would take sixteen bytes in place of nine, and a server has 1,024 of them.
+#[derive(Clone, Copy, Debug, PartialEq, Eq)]
 pub struct Profile {
-    pub(crate) row: [Mode; Settings::STATIONS],
-    pub(crate) marks: [Marked; Settings::STATIONS],
+    pub(crate) row: Row,
+    pub(crate) marks: Marks,
 }
 
 impl Profile {
     pub fn empty() -> Profile
         ensures { result ≡ empty_profile }
     {
-        let none = Marked::of(Mark::Unmarked);
         Profile {
             row: [Mode::NONE; Settings::STATIONS],
-            marks: [none; Settings::STATIONS],
+            marks: [Marked::from(Mark::Unmarked); Settings::STATIONS],
         }
     }
 
     // The modes and marks of a set of stations go.
+    #[tactic(auto, unfolding(crate::specs::Under::wiped_under))]
     pub fn wiped(self, set: u64) -> Profile
         ensures { result ≡ wiped_under set self }
     {
-        let modes = self.row;
-        let marks = self.marks;
         Profile {
-            row: row::wiped(modes, set),
-            marks: mark::change_in(marks, set, Change::Wipe),
+            row: row::wiped(self.row, set),
+            marks: mark::change_in(self.marks, set, |_| Mark::Unmarked),
         }
     }
 
+    #[tactic(auto, unfolding(crate::specs::Under::kept_under))]
     pub fn kept(self, set: u64) -> Profile
         ensures { result ≡ kept_under set self }
     {
-        let modes = self.row;
-        let marks = self.marks;
         Profile {
-            row: modes,
-            marks: mark::change_in(marks, set, Change::Keep),
+            marks: mark::change_in(self.marks, set, |mark| mark.kept()),
+            ..self
         }
     }
 
     // Whether a station of the set has a mode or a mark, so that wiping it changes something.
+    #[tactic(auto, unfolding(crate::specs::Under::touched_under))]
     pub fn touched(self, set: u64) -> bool
         ensures { result ≡ touched_under set self }
     {
-        let modes = self.row;
-        let marks = self.marks;
-        if row::some_in(modes, set) {
-            return true;
-        }
-        mark::some_in(marks, set)
+        row::some_in(self.row, set) || mark::some_in(self.marks, set)
     }
 
     // The stations with a mark demanded for `answer` or more ticks.
-    pub fn late(self, now: u64, answer: u64) -> u64
-        ensures { result ≡ mask (marks_with (is_late answer now) self.marks) }
+    pub fn late(&self, now: u64, answer: u64) -> u64
+        ensures { result ≡ mask (marks_with (is_late answer now) self.now.marks) }
     {
-        let marks = self.marks;
-        // Most profiles have no marks.
-        if mark::some_in(marks, EVERYONE) {
-            return mark::marks_in(marks, Which::Late { now, answer });
+        if !mark::any_in(&self.marks) {
+            return 0;
         }
-        0
+        mark::marks_in(self.marks, |mark| mark.is_late(now, answer))
     }
 }

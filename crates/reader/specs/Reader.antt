@@ -1,17 +1,16 @@
 -- Where a reader goes from a place.
-use Rattle.std.specs.Prelude.{ℕ, zero, suc, List, length}
-use Rattle.record.specs.declared.read.Read.{Read}
-use Rattle.record.specs.declared.read.Read.TheVariants.{Record, Refused}
+use Rattle.std.specs.Prelude.{ℕ, zero, suc, List, length, Ok, Err}
+use Rattle.refusals.specs.declared.Refusal.{Refusal}
+use Rattle.refusals.specs.declared.Refusal.TheVariants.{TooShort}
 use Rattle.reader.specs.declared.Reader.{Reader}
-use Rattle.reader.specs.declared.Step.{Step}
 use Rattle.reader.specs.declared.Taken.{Taken}
 use Rattle.reader.specs.declared.Passed.{Passed}
-use Rattle.record.specs.Read.{read_at, said_read}
+use Rattle.record.specs.Read.{Read, read_at, said_read}
 
 -- "15 to 19 leave place .. untouched": a record moves the reader past it, a refusal leaves it where it stood
 abbrev pub after_read : Read → ℕ → ℕ
-after_read (Record m next) at = next
-after_read (Refused refusal) at = at
+after_read (Ok (m, next)) at = next
+after_read (Err refusal) at = at
 
 abbrev pub next_place : List ℕ → ℕ → ℕ
 next_place s at = after_read (read_at s at) at
@@ -32,22 +31,20 @@ pub record SaidTaken : Type 0 where
 abbrev pub said_taken : Taken → SaidTaken
 said_taken t = record { read = said_read t.read; reader = t.reader }
 
-abbrev pub step_at : List ℕ → ℕ → Step
-step_at s at = record { read = read_at s at; at = next_place s at }
-
 -- what follows a read, by its answer: on at the next place, or an end with the refusal
-abbrev pub on_read : {A : Type 0} → Read → (ℕ → A) → (ℕ → A) → A
-on_read (Record m next) go stop = go next
-on_read (Refused refusal) go stop = stop refusal
+abbrev pub on_read : {A : Type 0} → Read → (ℕ → A) → (Refusal → A) → A
+on_read (Ok (m, next)) go stop = go next
+on_read (Err refusal) go stop = stop refusal
 
 -- record after record, so many at most: how many with those before, where it stops, and why
 unfoldable pub passing : ℕ → ℕ → List ℕ → ℕ → Passed
-passing zero before s at = record { count = before; next = at; refusal = 0 }
+passing zero before s at = record { count = before; next = at; refusal = TooShort }
 passing (suc left) before s at =
     on_read (read_at s at)
     (λ next. passing left (suc before) s next)
-    (λ n. record { count = before; next = at; refusal = n })
+    (λ r. record { count = before; next = at; refusal = r })
 
--- All records that stand one after another from a place on. So many bytes hold fewer records, so that a refusal stops it.
+-- All records that stand one after another from a place on. So many bytes hold fewer records, so that a refusal
+-- stops it, and it never comes to the end of `passing`.
 abbrev pub passed_from : List ℕ → ℕ → Passed
 passed_from s at = passing (suc (length s)) 0 s at

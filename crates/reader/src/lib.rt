@@ -2,9 +2,10 @@
 #![tactic(auto)]
 
 ghost use Rattle.std.specs.Prelude.{◌≡◌};
-ghost use Rattle.reader.specs.Reader.{step_at, taken_by, said_taken, passed_from};
+ghost use Rattle.reader.specs.Reader.{taken_by, said_taken, passed_from};
 
-use record::{Read, record_at};
+use record::{Message, record_at};
+use refusals::Refusal;
 
 #[derive(Clone, Copy)]
 pub struct Reader<'a> {
@@ -12,50 +13,36 @@ pub struct Reader<'a> {
     at: usize,
 }
 
-// What was read, and the reader afterwards: past the record, or where it stood.
+// What was read, a message with the place after its record, and the reader afterwards: past the record, or where it stood.
 #[derive(Clone, Copy)]
 pub struct Taken<'a> {
-    pub read: Read,
+    pub read: Result<(Message, usize), Refusal>,
     pub reader: Reader<'a>,
 }
 
 // How many records stand one after another, the place after them, and why no further one does.
-#[derive(Clone, Copy)]
+#[derive(Clone, Copy, Debug, PartialEq, Eq)]
 pub struct Passed {
     pub count: usize,
     pub next: usize,
-    pub refusal: u8,
-}
-
-// What was read, and the place then.
-#[derive(Clone, Copy)]
-struct Step {
-    read: Read,
-    at: usize,
-}
-
-fn step_at(s: &[u8], at: usize) -> Step
-    ensures { result ≡ step_at s.now at }
-{
-    let read = record_at(s, at);
-    match read {
-        Read::Record(_, next) => Step { read, at: next },
-        Read::Refused(_) => Step { read, at },
-    }
+    pub refusal: Refusal,
 }
 
 // All records that stand one after another from a place on, up to the first refusal.
+#[tactic(auto, using(record::proofs::Said::said_read_injective, crate::proofs::Passing::lies, crate::proofs::Passing::passes, crate::proofs::Passing::stops))]
 pub fn passed_from(s: &[u8], at: usize) -> Passed
     ensures { result ≡ passed_from s.now at }
 {
     let mut next = at;
     let mut count = 0;
+    // Kept: a `for` would owe an answer for an end that never comes, since only a refusal ends the loop.
     loop {
         match record_at(s, next) {
-            Read::Record(_, place) => {
+            Ok((_, place)) => {
                 next = place;
+                count += 1;
             }
-            Read::Refused(refusal) => {
+            Err(refusal) => {
                 return Passed {
                     count,
                     next,
@@ -63,7 +50,6 @@ pub fn passed_from(s: &[u8], at: usize) -> Passed
                 };
             }
         }
-        count += 1;
     }
 }
 
@@ -86,13 +72,14 @@ impl<'a> Reader<'a> {
     pub fn take(self) -> Taken<'a>
         ensures { said_taken result ≡ said_taken (taken_by self.entry) }
     {
-        let step = step_at(self.src, self.at);
+        let read = record_at(self.src, self.at);
+        let at = match read {
+            Ok((_, next)) => next,
+            Err(_) => self.at,
+        };
         Taken {
-            read: step.read,
-            reader: Reader {
-                src: self.src,
-                at: step.at,
-            },
+            read,
+            reader: Reader { at, ..self },
         }
     }
 

@@ -3,9 +3,8 @@
 
 mod allow; // which messages the record allows
 mod message; // a message's six numbers, and the record's numbers by name
-mod number; // numbers of four bytes, high first
 mod read; // what stands at a place
 
 pub use allow::allowed;
 pub use message::Message;
-pub use read::{Read, record_at};
+pub use read::record_at;

@@ -1,8 +1,9 @@
 // A message, and the numbers of its record by name.
 use timing::settings::Settings;
 
-// Six plain numbers, so that a message the record does not allow can be put to the writer and is refused there.
-#[derive(Clone, Copy)]
+// Kept: six plain numbers and no enums, since a message that the record does not allow can be put to the writer, whose `put_record`
+// answers 18 for it.
+#[derive(Clone, Copy, Debug, PartialEq, Eq)]
 pub struct Message {
     pub kind: u8,
     pub station: u8,
@@ -68,15 +69,4 @@ impl Message {
     pub const FIRST_DEMANDED: u8 = 2;
 
     pub const LAST_MODE: u8 = 6;
-
-    // Refusals of reader and writer.
-    pub const SHORT: u8 = 15;
-
-    pub const NO_MARK: u8 = 16;
-
-    pub const NO_KIND: u8 = 17;
-
-    pub const NOT_ALLOWED: u8 = 18;
-
-    pub const NO_ROOM: u8 = 19;
 }

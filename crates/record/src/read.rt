@@ -1,75 +1,58 @@
 // What stands at a place of received bytes: a record, or why there is none.
-ghost use Rattle.std.specs.Prelude.{◌≡◌, ◌+◌, ◌≤◌, leb, length};
+ghost use Rattle.std.specs.Prelude.{◌≡◌};
 ghost use Rattle.record.specs.Read.{marked, message_of, read_bytes, read_at, said_read};
 
 use crate::allow::{allowed, is_kind};
 use crate::message::Message;
-use crate::number::number_of;
-
-// The message and the place after its record, or the number of refusal.
-#[derive(Clone, Copy)]
-pub enum Read {
-    Record(Message, usize),
-    Refused(u8),
-}
-
-// Whether eleven bytes stand at a place of so many; no sum here can wrap.
-fn stands(length: usize, at: usize) -> bool
-    ensures { result ≡ leb (at + 11) length }
-{
-    if length < Message::LENGTH {
-        return false;
-    }
-    at <= length - Message::LENGTH
-}
+use refusals::Refusal;
 
 fn marked(first: u8, second: u8) -> bool
     ensures { result ≡ marked first second }
 {
-    (first == Message::MARK_FIRST) & (second == Message::MARK_SECOND)
+    first == Message::MARK_FIRST && second == Message::MARK_SECOND
 }
 
 // The six numbers of eleven bytes.
-fn message_of(b: &[u8]) -> Message
-    requires { 11 ≤ length b.now }
+// Kept: no From, since it has one caller, and bytes that nothing has judged are no message yet.
+fn message_of(b: &[u8; Message::LENGTH]) -> Message
     ensures { result ≡ message_of b.now }
 {
-    let number = number_of(b[4], b[5], b[6], b[7]);
+    let [_, _, kind, station, n0, n1, n2, n3, profile, mode, detail] = *b;
+    let number = u32::from_be_bytes([n0, n1, n2, n3]);
     Message {
-        kind: b[2],
-        station: b[3],
+        kind,
+        station,
         number,
-        profile: b[8],
-        mode: b[9],
-        detail: b[10],
+        profile,
+        mode,
+        detail,
     }
 }
 
-// Eleven bytes, judged in the order of the refusals.
-fn judged(b: &[u8], next: usize) -> Read
-    requires { 11 ≤ length b.now }
+// Eleven bytes, judged in the order of the refusals, and the place after them.
+#[tactic(auto, unfolding(crate::specs::Read::read_bytes))]
+fn judged(b: &[u8; Message::LENGTH], next: usize) -> Result<(Message, usize), Refusal>
     ensures { result ≡ read_bytes b.now next }
 {
     if !marked(b[0], b[1]) {
-        return Read::Refused(Message::NO_MARK);
+        return Err(Refusal::BadMark);
     }
     let m = message_of(b);
     if !is_kind(m.kind) {
-        return Read::Refused(Message::NO_KIND);
+        return Err(Refusal::BadKind);
     }
     if !allowed(m) {
-        return Read::Refused(Message::NOT_ALLOWED);
+        return Err(Refusal::NotAllowed);
     }
-    Read::Record(m, next)
+    Ok((m, next))
 }
 
-// What stands at a place, whatever the place is.
-pub fn record_at(s: &[u8], at: usize) -> Read
+// What stands at a place, whatever the place is: the message and the place after its record.
+#[tactic(auto, using(crate::proofs::Short::too_short))]
+pub fn record_at(s: &[u8], at: usize) -> Result<(Message, usize), Refusal>
     ensures { said_read result ≡ said_read (read_at s.now at) }
 {
-    if !stands(s.len(), at) {
-        return Read::Refused(Message::SHORT);
-    }
-    let next = at + Message::LENGTH;
-    judged(&s[at..next], next)
+    let rest = s.get(at..).ok_or(Refusal::TooShort)?;
+    let bytes = rest.first_chunk().ok_or(Refusal::TooShort)?;
+    judged(bytes, at + Message::LENGTH)
 }

@@ -1,115 +1,53 @@
 // Bytes as pairs of digits in upper case, `-` for none.
-ghost use Rattle.std.specs.Prelude.{◌<◌};
+ghost use Rattle.std.specs.Prelude.{◌<◌, IfSome};
 
-use crate::print::put_byte;
-use crate::words::{NOWHERE, is_word, next_word};
+use arrayvec::ArrayVec;
+use std::fmt;
 
 // A line holds at most this many.
 pub(crate) const MOST: usize = 64;
 
-// The first `count` bytes stand in the line.
-#[derive(Clone, Copy)]
-pub(crate) struct Hex {
-    pub(crate) bytes: [u8; MOST],
-    pub(crate) count: usize,
-    pub(crate) end: usize,
+pub(crate) type Bytes = ArrayVec<u8, MOST>;
+
+// The bytes of a word.
+pub(crate) fn bytes_of(word: &str) -> Option<Bytes> {
+    let mut bytes = Bytes::new();
+    if word == "-" {
+        return Some(bytes);
+    }
+    let (pairs, rest) = word.as_bytes().as_chunks::<2>();
+    if pairs.is_empty() || !rest.is_empty() {
+        return None;
+    }
+    for [high, low] in pairs {
+        let byte = digit(*high)? * 16 + digit(*low)?;
+        bytes.try_push(byte).ok()?;
+    }
+    Some(bytes)
 }
 
-fn nothing() -> Hex {
-    Hex {
-        bytes: [0; MOST],
-        count: 0,
-        end: NOWHERE,
-    }
-}
-
-// A digit's value; what is no digit is above 15.
-fn nibble(b: u8) -> u8 {
-    if b < b'0' {
-        return 16;
-    }
-    if b <= b'9' {
-        return b - b'0';
-    }
-    if b < b'A' {
-        return 16;
-    }
-    if b <= b'F' {
-        return b - b'A' + 10;
-    }
-    16
-}
-
-// The bytes of a word; `end` is the place after it.
-fn bytes_of(text: &[u8], end: usize) -> Hex {
-    let count = text.len() / 2;
-    if MOST < count {
-        return nothing();
-    }
-    if text.len() != count * 2 {
-        return nothing();
-    }
-    let mut bytes = [0u8; MOST];
-    let mut i = 0;
-    while i < count {
-        let high = nibble(text[i * 2]);
-        let low = nibble(text[i * 2 + 1]);
-        if 15 < high {
-            return nothing();
-        }
-        if 15 < low {
-            return nothing();
-        }
-        bytes[i] = high * 16 + low;
-        i += 1;
-    }
-    Hex { bytes, count, end }
-}
-
-// The bytes after a place.
-pub(crate) fn next_hex(s: &[u8], place: usize) -> Hex {
-    let w = next_word(s, place);
-    let from = w.from;
-    let end = w.end;
-    if is_word(s, w, b"-") {
-        return Hex {
-            bytes: [0; MOST],
-            count: 0,
-            end,
-        };
-    }
-    if s.len() < end {
-        return nothing();
-    }
-    if end <= from {
-        return nothing();
-    }
-    bytes_of(&s[from..end], end)
-}
-
-fn glyph(nibble: u8) -> u8
-    requires { nibble < 16 }
+// Kept: a match, since the language allows upper case alone, and `to_digit` of a character takes both.
+fn digit(b: u8) -> Option<u8>
+    ensures { IfSome result (λ value. value < 16) }
 {
-    if nibble < 10 {
-        return b'0' + nibble;
+    match b {
+        b'0'..=b'9' => Some(b - b'0'),
+        b'A'..=b'F' => Some(b - b'A' + 10),
+        _ => None,
     }
-    b'A' + (nibble - 10)
 }
 
-fn put_pair(out: &mut [u8], at: usize, b: u8) -> usize {
-    let next = put_byte(&mut *out, at, glyph(b / 16));
-    put_byte(out, next, glyph(b % 16))
-}
+#[derive(Clone, Copy)]
+pub(crate) struct Hex<'a>(pub(crate) &'a [u8]);
 
-pub(crate) fn put_hex(out: &mut [u8], at: usize, bytes: &[u8]) -> usize {
-    if bytes.len() == 0 {
-        return put_byte(out, at, b'-');
+impl fmt::Display for Hex<'_> {
+    fn fmt<W: fmt::Write>(&self, f: &mut fmt::Formatter<W>) -> fmt::Result {
+        if self.0.is_empty() {
+            return f.write_str("-");
+        }
+        for byte in self.0 {
+            write!(f, "{byte:02X}")?;
+        }
+        Ok(())
     }
-    let mut next = at;
-    let mut i = 0;
-    while i < bytes.len() {
-        next = put_pair(&mut *out, next, bytes[i]);
-        i += 1;
-    }
-    next
 }

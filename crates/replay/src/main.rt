@@ -1,32 +1,29 @@
 // Plays a script of events through one server engine and sixteen room engines, and prints every answer.
 #![tactic(auto)]
 
-mod acks; // what a server's message to a room says
-mod asked; // what a station's message asks, in either engine's lines
-mod bytes; // the lines that read and write a record
-mod clock; // the lines about readings and leases
-mod flow; // the input, line by line, and the output
+mod engines; // the server and the rooms
 mod hex; // bytes as pairs of upper case digits
 mod line; // which line it is
-mod plain; // the lines that need no engine
-mod play; // the engines
-mod print; // the output buffer
+mod play; // the script, line by line
+mod record_line; // the lines that read and write a record
 mod reply; // what is printed for a line
-mod rooms; // the lines of a room
-mod serve; // the lines of the server
-mod told; // what a room answers
-mod words; // words and numbers of a line
+mod room_line; // the lines of a room
+mod room_reply; // what a room answers
+mod script; // the input, line by line
+mod server_line; // the lines of the server
+mod server_reply; // what the server answers
+mod words; // the words and numbers of a line
 
+use script::Script;
 use std::io;
+use std::io::BufWriter;
 
 // How much is read and written at once.
 const LARGE: usize = 65_536;
 
 fn main(rt: HostRuntime) -> io::Result<()> {
-    let mut from = rt.stdin();
-    let mut to = rt.stdout();
-    let mut chunk = [0u8; LARGE];
-    let mut line = [0u8; 1024];
-    let mut out = [0u8; LARGE];
-    play::play(&mut from, &mut to, &mut chunk, &mut line, &mut out)
+    let alloc = rt.alloc();
+    let script = Script::new(alloc, LARGE, rt.stdin())?;
+    let answers = BufWriter::with_capacity(alloc, LARGE, rt.stdout())?;
+    play::play(script, answers)
 }

@@ -1,12 +1,12 @@
 -- What a station asks of the server.
-use Rattle.std.specs.Prelude.{Bool, true, false, cond, ℕ, zero, suc, leb}
+use Rattle.std.specs.Prelude.{Bool, true, false, cond, ℕ, zero, suc, leb, Option, Some, None, Ok, Err}
+use Rattle.refusals.specs.Refusal.{Verdict}
+use Rattle.refusals.specs.declared.Refusal.TheVariants as refusal
 use Rattle.modes.specs.Modes.{mode, is_mode}
 use Rattle.record.specs.declared.message.Message.{Message}
 use Rattle.record.specs.Message.{message}
 pub use Rattle.requests.specs.declared.Request.{Request}
 pub use Rattle.requests.specs.declared.Request.TheVariants.{Hello, KeepAlive, Ask, Release, Keep}
-pub use Rattle.requests.specs.declared.Asked.{Asked}
-pub use Rattle.requests.specs.declared.Asked.TheVariants.{For, Nothing}
 
 -- the profile that a request names; 0 where it names none, and then what stands at that profile does not matter
 abbrev pub profile_of : Request → ℕ
@@ -17,16 +17,16 @@ profile_of (Release p) = p
 profile_of (Keep p) = p
 
 -- 3, 4: "profile, mode out of range"
-abbrev pub profile_refusal : ℕ → ℕ → ℕ
-profile_refusal profiles p = cond (leb profiles p) 3 0
+abbrev pub profile_refusal : ℕ → ℕ → Verdict
+profile_refusal profiles p = cond (leb profiles p) (Err refusal.Profile) (Ok tt)
 
-abbrev pub pair_refusal : ℕ → ℕ → Bool → ℕ
-pair_refusal profiles p good = cond (leb profiles p) 3 (cond good 0 4)
+abbrev pub pair_refusal : ℕ → ℕ → Bool → Verdict
+pair_refusal profiles p good = cond (leb profiles p) (Err refusal.Profile) (cond good (Ok tt) (Err refusal.Mode))
 
 -- "The engines hold a message's station, profile and mode to its record and to the settings by 2, 3 and 4"
-abbrev pub request_refusal : ℕ → Request → ℕ
-request_refusal profiles Hello = 0
-request_refusal profiles KeepAlive = 0
+abbrev pub request_refusal : ℕ → Request → Verdict
+request_refusal profiles Hello = Ok tt
+request_refusal profiles KeepAlive = Ok tt
 request_refusal profiles (Ask p m) = pair_refusal profiles p (is_mode m.0)
 request_refusal profiles (Release p) = profile_refusal profiles p
 request_refusal profiles (Keep p) = profile_refusal profiles p
@@ -51,18 +51,18 @@ message_of station number q =
     message (said_request q).kind station number (said_request q).profile (said_request q).mode 0
 
 -- and back: "Only kinds 1 to 5 can be put to a server"
-abbrev pub asked_as : ℕ → Message → Asked
-asked_as (suc zero) m = For Hello
-asked_as (suc (suc zero)) m = For KeepAlive
-asked_as (suc (suc (suc zero))) m = For (Ask m.profile (mode m.mode))
-asked_as (suc (suc (suc (suc zero)))) m = For (Release m.profile)
-asked_as (suc (suc (suc (suc (suc zero))))) m = For (Keep m.profile)
-asked_as zero m = Nothing
-asked_as (suc (suc (suc (suc (suc (suc n)))))) m = Nothing
+abbrev pub asked_as : ℕ → Message → Option Request
+asked_as (suc zero) m = Some Hello
+asked_as (suc (suc zero)) m = Some KeepAlive
+asked_as (suc (suc (suc zero))) m = Some (Ask m.profile (mode m.mode))
+asked_as (suc (suc (suc (suc zero)))) m = Some (Release m.profile)
+asked_as (suc (suc (suc (suc (suc zero))))) m = Some (Keep m.profile)
+asked_as zero m = None
+asked_as (suc (suc (suc (suc (suc (suc n)))))) m = None
 
-unfoldable pub request_of : Message → Asked
+unfoldable pub request_of : Message → Option Request
 request_of m = asked_as m.kind m
 
-abbrev pub said_asked : Asked → SaidAsked
-said_asked (For q) = said_request q
-said_asked Nothing = record { good = false; kind = 0; profile = 0; mode = 0 }
+abbrev pub said_asked : Option Request → SaidAsked
+said_asked (Some q) = said_request q
+said_asked None = record { good = false; kind = 0; profile = 0; mode = 0 }

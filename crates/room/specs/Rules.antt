@@ -1,66 +1,73 @@
--- Refusals 8 to 14 of each event, in rising order; 0 where nothing forbids it.
-use Rattle.std.specs.Prelude.{Bool, true, false, cond, ◌&&◌, ◌||◌, not, ℕ, eqb, ltb}
+-- Refusals 8 to 14 of each event, in rising order.
+use Rattle.std.specs.Prelude.{Bool, true, false, cond, ◌&&◌, ◌||◌, not, ℕ, eqb, ltb, Option, Some, None, Result, Ok, Err}
+use Rattle.refusals.specs.Refusal.{Verdict, or_else}
+use Rattle.refusals.specs.declared.Refusal.{Refusal}
+use Rattle.refusals.specs.declared.Refusal.TheVariants as refused
 use Rattle.modes.specs.Modes.{covers, writes}
 use Rattle.requests.specs.Request.{profile_of}
-use Rattle.room.specs.Event.{Request, Hello, KeepAlive, Ask, Release, Keep, Waiting, Nothing, Sent, Ack, Done, Granted, Wait, InUse, Event, Send, Begin, Edit, End, WriteOut, Restart, Acked, Nacked, Demand}
+use Rattle.room.specs.Event.{Request, Hello, KeepAlive, Ask, Release, Keep, Sent, Ack, Done, Granted, Wait, InUse, Event, Send, Begin, Edit, End, WriteOut, Restart, Acked, Nacked, Demand}
 use Rattle.holds.specs.declared.hold.Hold.{Hold}
 use Rattle.holds.specs.Hold.{most_started}
 use Rattle.holds.specs.declared.stage.Stage.{Stage}
-use Rattle.timing.specs.Reading.{passed, or_else}
+use Rattle.timing.specs.Reading.{passed}
 
 abbrev pub last_number : ℕ
 last_number = 4_294_967_295
 
 -- 13: "number 4,294,967,295 is used"
-abbrev pub number_refusal : ℕ → ℕ
-number_refusal last = cond (ltb last last_number) 0 13
+abbrev pub number_refusal : ℕ → Verdict
+number_refusal last = cond (ltb last last_number) (Ok tt) (Err refused.NumbersUsed)
 
 -- 12: "release: started or unwritten"
-abbrev pub release_refusal : Hold → ℕ
-release_refusal h = cond (ltb 0 h.started || h.unwritten) 12 0
+abbrev pub release_refusal : Hold → Verdict
+release_refusal h = cond (ltb 0 h.started || h.unwritten) (Err refused.StillUsed) (Ok tt)
 
 -- 11: "none where one is needed"
-abbrev pub started_refusal : Hold → ℕ
-started_refusal h = cond (ltb 0 h.started) 0 11
+abbrev pub started_refusal : Hold → Verdict
+started_refusal h = cond (ltb 0 h.started) (Ok tt) (Err refused.OperationCount)
 
 -- 8: "the station is out"; 9: "phase or state forbids it". "Ask, keep-alive, release, keep: open, phase 1 or 2."
-abbrev pub sending_refusal : Stage → ℕ → ℕ → ℕ
-sending_refusal stage own last = cond stage.out 8 (cond stage.early (or_else own (number_refusal last)) 9)
+abbrev pub sending_refusal : Stage → Verdict → ℕ → Verdict
+sending_refusal stage own last =
+    cond stage.out (Err refused.Out) (cond stage.early (or_else own (number_refusal last)) (Err refused.PhaseForbids))
 
 -- "Hello: out only."
-abbrev pub hello_refusal : Stage → ℕ → ℕ
-hello_refusal stage last = cond stage.out (number_refusal last) 9
+abbrev pub hello_refusal : Stage → ℕ → Verdict
+hello_refusal stage last = cond stage.out (number_refusal last) (Err refused.PhaseForbids)
 
 -- "Release .. needs no started operation and nothing unwritten; a profile not held may be released. Keep needs a started operation."
-unfoldable pub send_refusal : Stage → Hold → ℕ → Request → ℕ
+unfoldable pub send_refusal : Stage → Hold → ℕ → Request → Verdict
 send_refusal stage h last Hello = hello_refusal stage last
-send_refusal stage h last KeepAlive = sending_refusal stage 0 last
-send_refusal stage h last (Ask p m) = sending_refusal stage 0 last
+send_refusal stage h last KeepAlive = sending_refusal stage (Ok tt) last
+send_refusal stage h last (Ask p m) = sending_refusal stage (Ok tt) last
 send_refusal stage h last (Release p) = sending_refusal stage (release_refusal h) last
 send_refusal stage h last (Keep p) = sending_refusal stage (started_refusal h) last
 
 -- "Begin an operation in a mode: phase 1 or 2, held mode covers it, fewer than 255 started."
-unfoldable pub begin_refusal : Stage → Hold → ℕ → ℕ
+unfoldable pub begin_refusal : Stage → Hold → ℕ → Verdict
 begin_refusal stage h m =
-    cond stage.out 8
-    (cond stage.early (cond (covers h.mode.0 m) (cond (ltb h.started most_started) 0 11) 10) 9)
+    cond stage.out (Err refused.Out)
+    (cond stage.early
+    (cond (covers h.mode.0 m) (cond (ltb h.started most_started) (Ok tt) (Err refused.OperationCount)) (Err refused.ModeForbids))
+    (Err refused.PhaseForbids))
 
 -- "Edit: up to phase 3, a writing mode, a started operation"
-unfoldable pub edit_refusal : Stage → Hold → ℕ
+unfoldable pub edit_refusal : Stage → Hold → Verdict
 edit_refusal stage h =
-    cond stage.out 8 (cond stage.not_late (cond (writes h.mode.0) (started_refusal h) 10) 9)
+    cond stage.out (Err refused.Out)
+    (cond stage.not_late (cond (writes h.mode.0) (started_refusal h) (Err refused.ModeForbids)) (Err refused.PhaseForbids))
 
 -- "End: any phase, a started operation."
-unfoldable pub end_refusal : Stage → Hold → ℕ
-end_refusal stage h = cond stage.out 8 (started_refusal h)
+unfoldable pub end_refusal : Stage → Hold → Verdict
+end_refusal stage h = cond stage.out (Err refused.Out) (started_refusal h)
 
 -- "Write out: any phase, a writing mode"
-unfoldable pub write_out_refusal : Stage → Hold → ℕ
-write_out_refusal stage h = cond stage.out 8 (cond (writes h.mode.0) 0 10)
+unfoldable pub write_out_refusal : Stage → Hold → Verdict
+write_out_refusal stage h = cond stage.out (Err refused.Out) (cond (writes h.mode.0) (Ok tt) (Err refused.ModeForbids))
 
 -- "Demand, phase 1 or 2, profile held or not"
-unfoldable pub demand_refusal : Stage → ℕ
-demand_refusal stage = cond stage.out 8 (cond stage.early 0 9)
+unfoldable pub demand_refusal : Stage → Verdict
+demand_refusal stage = cond stage.out (Err refused.Out) (cond stage.early (Ok tt) (Err refused.PhaseForbids))
 
 -- "An ACK fits if it is done for hello, keep-alive, release, keep"
 abbrev pub is_done : Ack → Bool
@@ -90,15 +97,20 @@ ack_profile (Granted p m) = p
 ack_profile (Wait p) = p
 ack_profile (InUse p) = p
 
--- 14: "no message waits, another number, an ACK that does not fit, or the ACK's message was sent L or more ticks ago".
--- The waiting message has the last number.
-unfoldable pub ack_forbids : Waiting → ℕ → ℕ → ℕ → ℕ → ℕ → Ack → ℕ
-ack_forbids Nothing lease now last k held a = 14
-ack_forbids (Sent q t) lease now last k held a = cond (eqb k last && fits q held a && not (passed t lease now)) 0 14
+-- the message that waits, where it has the number; it has the last one
+abbrev pub awaited : Option Sent → ℕ → ℕ → Result Sent Refusal
+awaited None last k = Err refused.NotAwaited
+awaited (Some s) last k = cond (eqb k last) (Ok s) (Err refused.NotAwaited)
 
-unfoldable pub nack_forbids : Waiting → ℕ → ℕ → ℕ
-nack_forbids Nothing last k = 14
-nack_forbids (Sent q t) last k = cond (eqb k last) 0 14
+-- 14: "no message waits, another number, an ACK that does not fit, or the ACK's message was sent L or more ticks ago".
+unfoldable pub ack_forbids : Option Sent → ℕ → ℕ → ℕ → ℕ → ℕ → Ack → Verdict
+ack_forbids None lease now last k held a = Err refused.NotAwaited
+ack_forbids (Some s) lease now last k held a =
+    cond (eqb k last && fits s.request held a && not (passed s.at lease now)) (Ok tt) (Err refused.NotAwaited)
+
+unfoldable pub nack_forbids : Option Sent → ℕ → ℕ → Verdict
+nack_forbids None last k = Err refused.NotAwaited
+nack_forbids (Some s) last k = cond (eqb k last) (Ok tt) (Err refused.NotAwaited)
 
 -- the profile that an event names; 0 where it names none, and then what is held there does not matter
 abbrev pub profile_for : Event → ℕ
@@ -113,13 +125,13 @@ profile_for (Nacked i k d) = 0
 profile_for (Demand i p m) = p
 
 -- 8 to 14; `h` is what the room has on the profile that the event names
-abbrev pub event_forbids : Stage → Hold → Waiting → ℕ → ℕ → ℕ → Event → ℕ
+abbrev pub event_forbids : Stage → Hold → Option Sent → ℕ → ℕ → ℕ → Event → Verdict
 event_forbids stage h w lease now last (Send q) = send_refusal stage h last q
 event_forbids stage h w lease now last (Begin p m) = begin_refusal stage h m.0
 event_forbids stage h w lease now last (Edit p) = edit_refusal stage h
 event_forbids stage h w lease now last (End p) = end_refusal stage h
 event_forbids stage h w lease now last (WriteOut p) = write_out_refusal stage h
-event_forbids stage h w lease now last Restart = 0
+event_forbids stage h w lease now last Restart = Ok tt
 event_forbids stage h w lease now last (Acked i k a) = ack_forbids w lease now last k h.mode.0 a
 event_forbids stage h w lease now last (Nacked i k d) = nack_forbids w last k
 event_forbids stage h w lease now last (Demand i p m) = demand_refusal stage

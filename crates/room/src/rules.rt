@@ -1,142 +1,29 @@
-// Refusals 8 to 14 of each event, in rising order, or 0.
-ghost use Rattle.std.specs.Prelude.{◌≡◌};
-ghost use Rattle.room.specs.Rules.{number_refusal, release_refusal, started_refusal, sending_refusal, hello_refusal, send_refusal, begin_refusal, edit_refusal, end_refusal, write_out_refusal, demand_refusal, is_done, fits_ask, fits, ack_profile, ack_forbids, nack_forbids, profile_for, event_forbids};
+// Refusals 8 to 14 of each event, in rising order.
+ghost use Rattle.std.specs.Prelude.{◌≡◌, cond, Ok, Err};
+ghost use Rattle.refusals.specs.declared.Refusal.TheVariants.{Out};
+ghost use Rattle.room.specs.Rules.{number_refusal, release_refusal, started_refusal, sending_refusal, hello_refusal, send_refusal, begin_refusal, edit_refusal, end_refusal, write_out_refusal, demand_refusal, fits_ask, fits, ack_profile, awaited, ack_forbids, nack_forbids, profile_for, event_forbids};
 
-use crate::event::{Ack, Event, Request, Waiting};
+use crate::event::{Ack, Event, Request, Sent};
 use holds::hold::Hold;
 use holds::stage::Stage;
 use modes::Mode;
+use refusals::{Refusal, unless};
 use timing::reading::Reading;
 
 // No message has a number above this one.
-pub const LAST_NUMBER: u32 = 4_294_967_295;
+pub const LAST_NUMBER: u32 = u32::MAX;
 
-fn number_refusal(last: u32) -> u8
-    ensures { result ≡ number_refusal last }
-{
-    if last < LAST_NUMBER { 0 } else { 13 }
-}
-
-fn release_refusal(hold: Hold) -> u8
-    ensures { result ≡ release_refusal hold }
-{
-    if 0 < hold.started {
-        return 12;
-    }
-    if hold.unwritten { 12 } else { 0 }
-}
-
-fn started_refusal(hold: Hold) -> u8
-    ensures { result ≡ started_refusal hold }
-{
-    if 0 < hold.started { 0 } else { 11 }
-}
-
-// Of a message that needs an open station in phase 1 or 2, and what `own` says besides.
-fn sending_refusal(stage: Stage, own: u8, last: u32) -> u8
-    ensures { result ≡ sending_refusal stage own last }
-{
-    if stage.out {
-        return 8;
-    }
-    if !stage.early {
-        return 9;
-    }
-    if own != 0 {
-        return own;
-    }
-    number_refusal(last)
-}
-
-fn hello_refusal(stage: Stage, last: u32) -> u8
-    ensures { result ≡ hello_refusal stage last }
-{
-    if !stage.out {
-        return 9;
-    }
-    number_refusal(last)
-}
-
-// `hold` is of the profile that the request names.
-fn send_refusal(stage: Stage, hold: Hold, last: u32, request: Request) -> u8
-    ensures { result ≡ send_refusal stage hold last request }
-{
-    match request {
-        Request::Hello => hello_refusal(stage, last),
-        Request::KeepAlive => sending_refusal(stage, 0, last),
-        Request::Ask(_, _) => sending_refusal(stage, 0, last),
-        Request::Release(_) => sending_refusal(stage, release_refusal(hold), last),
-        Request::Keep(_) => sending_refusal(stage, started_refusal(hold), last),
-    }
-}
-
-fn begin_refusal(stage: Stage, hold: Hold, mode: Mode) -> u8
-    ensures { result ≡ begin_refusal stage hold mode.0 }
-{
-    if stage.out {
-        return 8;
-    }
-    if !stage.early {
-        return 9;
-    }
-    let held = hold.mode;
-    if !held.covers(mode) {
-        return 10;
-    }
-    if hold.started < Hold::MOST { 0 } else { 11 }
-}
-
-fn edit_refusal(stage: Stage, hold: Hold) -> u8
-    ensures { result ≡ edit_refusal stage hold }
-{
-    if stage.out {
-        return 8;
-    }
-    if !stage.not_late {
-        return 9;
-    }
-    let held = hold.mode;
-    if !held.writes() {
-        return 10;
-    }
-    started_refusal(hold)
-}
-
-fn end_refusal(stage: Stage, hold: Hold) -> u8
-    ensures { result ≡ end_refusal stage hold }
-{
-    if stage.out {
-        return 8;
-    }
-    started_refusal(hold)
-}
-
-fn write_out_refusal(stage: Stage, hold: Hold) -> u8
-    ensures { result ≡ write_out_refusal stage hold }
-{
-    if stage.out {
-        return 8;
-    }
-    let held = hold.mode;
-    if held.writes() { 0 } else { 10 }
-}
-
-fn demand_refusal(stage: Stage) -> u8
-    ensures { result ≡ demand_refusal stage }
-{
-    if stage.out {
-        return 8;
-    }
-    if stage.early { 0 } else { 9 }
-}
-
-fn is_done(ack: Ack) -> bool
-    ensures { result ≡ is_done ack }
-{
-    match ack {
-        Ack::Done => true,
-        _ => false,
-    }
+// What the rules look at.
+#[derive(Clone, Copy)]
+pub struct Seen {
+    pub stage: Stage,
+    // Of the profile that the event names.
+    pub hold: Hold,
+    pub waiting: Option<Sent>,
+    pub lease: u64,
+    pub now: u64,
+    // The last number.
+    pub last: u32,
 }
 
 // Whether an ACK answers an ask of `asked` on `profile` where `held` is held.
@@ -145,121 +32,195 @@ fn fits_ask(profile: u8, asked: Mode, held: Mode, ack: Ack) -> bool
 {
     match ack {
         Ack::Done => false,
-        Ack::Granted(named, mode) => {
-            if named != profile {
-                return false;
-            }
-            if !mode.covers(held) {
-                return false;
-            }
-            mode.covers(asked)
-        }
-        Ack::Wait(named) => named == profile,
-        Ack::InUse(named) => named == profile,
+        Ack::Granted(named, mode) => named == profile && mode.covers(held) && mode.covers(asked),
+        Ack::Wait(named) | Ack::InUse(named) => named == profile,
     }
 }
 
+#[tactic(auto, unfolding(crate::specs::Rules::fits))]
 fn fits(request: Request, held: Mode, ack: Ack) -> bool
     ensures { result ≡ fits request held.0 ack }
 {
     match request {
         Request::Ask(profile, asked) => fits_ask(profile, asked, held, ack),
-        _ => is_done(ack),
+        _ => matches!(ack, Ack::Done),
     }
 }
 
 // The profile that an ACK names, 0 where it names none.
+// Kept: a number, as `profile_for` below.
 fn ack_profile(ack: Ack) -> u8
     ensures { result ≡ ack_profile ack }
 {
     match ack {
         Ack::Done => 0,
-        Ack::Granted(profile, _) => profile,
-        Ack::Wait(profile) => profile,
-        Ack::InUse(profile) => profile,
-    }
-}
-
-// `held` is the mode on the profile that the ACK names.
-fn ack_refusal(
-    waiting: Waiting,
-    lease: u64,
-    now: u64,
-    last: u32,
-    number: u32,
-    held: Mode,
-    ack: Ack,
-) -> u8
-    ensures { result ≡ ack_forbids waiting lease now last number held.0 ack }
-{
-    match waiting {
-        Waiting::Nothing => 14,
-        Waiting::Sent(request, at) => {
-            if number != last {
-                return 14;
-            }
-            if !fits(request, held, ack) {
-                return 14;
-            }
-            if Reading::passed(at, lease, now) {
-                14
-            } else {
-                0
-            }
-        }
-    }
-}
-
-fn nack_refusal(waiting: Waiting, last: u32, number: u32) -> u8
-    ensures { result ≡ nack_forbids waiting last number }
-{
-    match waiting {
-        Waiting::Nothing => 14,
-        Waiting::Sent(_, _) => if number == last { 0 } else { 14 },
+        Ack::Granted(profile, _) | Ack::Wait(profile) | Ack::InUse(profile) => profile,
     }
 }
 
 // The profile that an event names, 0 where it names none.
+// Kept: a number and no Option, as `profile_of` of `requests`: what is held of that profile is looked at, named or not.
 pub fn profile_for(event: Event) -> u8
     ensures { result ≡ profile_for event }
 {
     match event {
         Event::Send(request) => requests::profile_of(request),
-        Event::Begin(profile, _) => profile,
-        Event::Edit(profile) => profile,
-        Event::End(profile) => profile,
-        Event::WriteOut(profile) => profile,
-        Event::Restart => 0,
+        Event::Begin(profile, _)
+        | Event::Edit(profile)
+        | Event::End(profile)
+        | Event::WriteOut(profile)
+        | Event::Demand(_, profile, _) => profile,
         Event::Ack(_, _, ack) => ack_profile(ack),
-        Event::Nack(_, _, _) => 0,
-        Event::Demand(_, profile, _) => profile,
+        Event::Restart | Event::Nack(_, _, _) => 0,
     }
 }
 
-// `hold` is of the profile that the event names.
-pub fn forbids(
-    stage: Stage,
-    hold: Hold,
-    waiting: Waiting,
-    lease: u64,
-    now: u64,
-    last: u32,
-    event: Event,
-) -> u8
-    ensures { result ≡ event_forbids stage hold waiting lease now last event }
-{
-    match event {
-        Event::Send(request) => send_refusal(stage, hold, last, request),
-        Event::Begin(_, mode) => begin_refusal(stage, hold, mode),
-        Event::Edit(_) => edit_refusal(stage, hold),
-        Event::End(_) => end_refusal(stage, hold),
-        Event::WriteOut(_) => write_out_refusal(stage, hold),
-        Event::Restart => 0,
-        Event::Ack(_, number, ack) => {
-            let held = hold.mode;
-            ack_refusal(waiting, lease, now, last, number, held, ack)
+impl Seen {
+    // 13: the last number is used.
+    fn check_number(self) -> Result<(), Refusal>
+        ensures { result ≡ number_refusal self.last }
+    {
+        unless(self.last < LAST_NUMBER, Refusal::NumbersUsed)
+    }
+
+    // 12: a release needs no started operation and nothing unwritten.
+    fn check_unused(self) -> Result<(), Refusal>
+        ensures { result ≡ release_refusal self.hold }
+    {
+        unless(self.hold.started == 0, Refusal::StillUsed)?;
+        unless(!self.hold.unwritten, Refusal::StillUsed)
+    }
+
+    // 11: no operation is started where one is needed.
+    fn check_started(self) -> Result<(), Refusal>
+        ensures { result ≡ started_refusal self.hold }
+    {
+        unless(0 < self.hold.started, Refusal::OperationCount)
+    }
+
+    // 8: the station is out.
+    fn check_inside(self) -> Result<(), Refusal>
+        ensures { result ≡ cond self.stage.out (Err Out) (Ok tt) }
+    {
+        unless(!self.stage.out, Refusal::Out)
+    }
+
+    // 8 and 9 of a demand, and of whatever else needs an open station in phase 1 or 2.
+    #[tactic(auto, unfolding(crate::specs::Rules::demand_refusal))]
+    fn check_early(self) -> Result<(), Refusal>
+        ensures { result ≡ demand_refusal self.stage }
+    {
+        self.check_inside()?;
+        unless(self.stage.early, Refusal::PhaseForbids)
+    }
+
+    // Of a message that needs one, and what `own` says besides.
+    #[tactic(auto, unfolding(crate::specs::Rules::demand_refusal))]
+    fn check_sending(self, own: Result<(), Refusal>) -> Result<(), Refusal>
+        ensures { result ≡ sending_refusal self.stage own self.last }
+    {
+        self.check_early()?;
+        own?;
+        self.check_number()
+    }
+
+    fn check_hello(self) -> Result<(), Refusal>
+        ensures { result ≡ hello_refusal self.stage self.last }
+    {
+        unless(self.stage.out, Refusal::PhaseForbids)?;
+        self.check_number()
+    }
+
+    #[tactic(auto, unfolding(crate::specs::Rules::send_refusal))]
+    fn check_send(self, request: Request) -> Result<(), Refusal>
+        ensures { result ≡ send_refusal self.stage self.hold self.last request }
+    {
+        match request {
+            Request::Hello => self.check_hello(),
+            Request::KeepAlive | Request::Ask(_, _) => self.check_sending(Ok(())),
+            Request::Release(_) => self.check_sending(self.check_unused()),
+            Request::Keep(_) => self.check_sending(self.check_started()),
         }
-        Event::Nack(_, number, _) => nack_refusal(waiting, last, number),
-        Event::Demand(_, _, _) => demand_refusal(stage),
+    }
+
+    #[tactic(auto, unfolding(crate::specs::Rules::demand_refusal, crate::specs::Rules::begin_refusal))]
+    fn check_begin(self, mode: Mode) -> Result<(), Refusal>
+        ensures { result ≡ begin_refusal self.stage self.hold mode.0 }
+    {
+        self.check_early()?;
+        unless(self.hold.mode.covers(mode), Refusal::ModeForbids)?;
+        unless(self.hold.started < Hold::MOST, Refusal::OperationCount)
+    }
+
+    #[tactic(auto, unfolding(crate::specs::Rules::edit_refusal))]
+    fn check_edit(self) -> Result<(), Refusal>
+        ensures { result ≡ edit_refusal self.stage self.hold }
+    {
+        self.check_inside()?;
+        unless(self.stage.not_late, Refusal::PhaseForbids)?;
+        unless(self.hold.mode.writes(), Refusal::ModeForbids)?;
+        self.check_started()
+    }
+
+    #[tactic(auto, unfolding(crate::specs::Rules::end_refusal))]
+    fn check_end(self) -> Result<(), Refusal>
+        ensures { result ≡ end_refusal self.stage self.hold }
+    {
+        self.check_inside()?;
+        self.check_started()
+    }
+
+    #[tactic(auto, unfolding(crate::specs::Rules::write_out_refusal))]
+    fn check_write_out(self) -> Result<(), Refusal>
+        ensures { result ≡ write_out_refusal self.stage self.hold }
+    {
+        self.check_inside()?;
+        unless(self.hold.mode.writes(), Refusal::ModeForbids)
+    }
+
+    // The message that waits, where it has that number.
+    fn awaited(self, number: u32) -> Result<Sent, Refusal>
+        ensures { result ≡ awaited self.waiting self.last number }
+    {
+        match self.waiting {
+            Some(sent) if number == self.last => Ok(sent),
+            _ => Err(Refusal::NotAwaited),
+        }
+    }
+
+    #[tactic(auto, unfolding(crate::specs::Rules::ack_forbids))]
+    fn check_ack(self, number: u32, ack: Ack) -> Result<(), Refusal>
+        ensures { result ≡ ack_forbids self.waiting self.lease self.now self.last number self.hold.mode.0 ack }
+    {
+        let sent = self.awaited(number)?;
+        unless(fits(sent.request, self.hold.mode, ack), Refusal::NotAwaited)?;
+        unless(
+            !Reading::passed(sent.at, self.lease, self.now),
+            Refusal::NotAwaited,
+        )
+    }
+
+    #[tactic(auto, unfolding(crate::specs::Rules::nack_forbids))]
+    fn check_nack(self, number: u32) -> Result<(), Refusal>
+        ensures { result ≡ nack_forbids self.waiting self.last number }
+    {
+        self.awaited(number)?;
+        Ok(())
+    }
+
+    pub fn forbids(self, event: Event) -> Result<(), Refusal>
+        ensures { result ≡ event_forbids self.stage self.hold self.waiting self.lease self.now self.last event }
+    {
+        match event {
+            Event::Send(request) => self.check_send(request),
+            Event::Begin(_, mode) => self.check_begin(mode),
+            Event::Edit(_) => self.check_edit(),
+            Event::End(_) => self.check_end(),
+            Event::WriteOut(_) => self.check_write_out(),
+            Event::Restart => Ok(()),
+            Event::Ack(_, number, ack) => self.check_ack(number, ack),
+            Event::Nack(_, number, _) => self.check_nack(number),
+            Event::Demand(_, _, _) => self.check_early(),
+        }
     }
 }

@@ -2,10 +2,13 @@
 -- Assumes nothing.
 use mathlib.Core.Path.{◌≡◌, refl}
 use mathlib.Core.Bool.{Bool, true, false}
-use Prim.Native.Nat.{ℕ, zero, suc, ◌<◌, ◌≤◌}
+use Prim.Native.Nat.{ℕ, ◌<◌, ◌≤◌}
 use native.Mathlib.Omega.{arith}
+use Rattle.std.proofs.Common.{Ok, Err}
 use lib.Dec.{ltb}
 use borrow.Author.Tests.{ltb-true, ltb-false}
+use Rattle.refusals.specs.Refusal.{Verdict}
+use Rattle.refusals.specs.declared.Refusal.{Refusal}
 use Rattle.masks.specs.Mask.{any}
 use Rattle.modes.specs.declared.Mode.{Mode}
 use Rattle.server.specs.State.{Status, Unknown, Live, TimingOut, Server, status_of, last_of}
@@ -15,7 +18,7 @@ use Rattle.server.proofs.Serves.{Accepted}
 use Rattle.server.proofs.InTheWay.{holders, kept_holders}
 
 pub data Case (s : Server) (now : ℕ) : Event → Type 0 where
-  refused : {e : Event} (n : ℕ) → refusal s.settings s.reading now e ≡ suc n → Case s now e
+  refused : {e : Event} (r : Refusal) → refusal s.settings s.reading now e ≡ Err r → Case s now e
   ticks : Accepted s now Tick → Case s now Tick
   stale : {i k : ℕ} {q : Request} → Accepted s now (Message i k q) → k ≤ last_of s i → Case s now (Message i k q)
   nack_0 : {i k : ℕ} {q : Request} → Accepted s now (Message i k q) → last_of s i < k → (since : ℕ) → status_of s i ≡ TimingOut since → Case s now (Message i k q)
@@ -34,14 +37,14 @@ pub data Case (s : Server) (now : ℕ) : Event → Type 0 where
 module _ (s : Server) (now : ℕ) where
   module _ (i k : ℕ) (new : last_of s i < k) where
     from_unknown : (q : Request) → Accepted s now (Message i k q) → status_of s i ≡ Unknown → Case s now (Message i k q)
-    from_unknown Hello a e = hello a new (λ since h. let z : ◌≡◌ {A = ℕ} 0 1 = cc in omega arith)
-    from_unknown KeepAlive a e = nack_1 a new (λ h. let z : ◌≡◌ {A = ℕ} 0 1 = cc in omega arith) e
-    from_unknown (Ask p asked) a e = nack_1 a new (λ h. let z : ◌≡◌ {A = ℕ} 0 1 = cc in omega arith) e
-    from_unknown (Release p) a e = nack_1 a new (λ h. let z : ◌≡◌ {A = ℕ} 0 1 = cc in omega arith) e
-    from_unknown (Keep p) a e = nack_1 a new (λ h. let z : ◌≡◌ {A = ℕ} 0 1 = cc in omega arith) e
+    from_unknown Hello a e = hello a new (λ since h. grind arith)
+    from_unknown KeepAlive a e = nack_1 a new (λ h. grind arith) e
+    from_unknown (Ask p asked) a e = nack_1 a new (λ h. grind arith) e
+    from_unknown (Release p) a e = nack_1 a new (λ h. grind arith) e
+    from_unknown (Keep p) a e = nack_1 a new (λ h. grind arith) e
 
     from_live : (q : Request) → Accepted s now (Message i k q) → status_of s i ≡ Live → Case s now (Message i k q)
-    from_live Hello a e = hello a new (λ since h. let z : ◌≡◌ {A = ℕ} 0 1 = cc in omega arith)
+    from_live Hello a e = hello a new (λ since h. grind arith)
     from_live KeepAlive a e = keep_alive a new e
     from_live (Release p) a e = release a new e
     from_live (Keep p) a e = keep a new e
@@ -74,6 +77,6 @@ module _ (s : Server) (now : ℕ) where
       by_event (Message i k q) a = from_message i k q a
       by_event Tick a = ticks a
 
-      by_refusal : (n : ℕ) → refusal s.settings s.reading now e ≡ n → Case s now e
-      by_refusal zero h = by_event e h
-      by_refusal (suc n) h = refused n h
+      by_refusal : (v : Verdict) → refusal s.settings s.reading now e ≡ v → Case s now e
+      by_refusal (Ok _) h = by_event e h
+      by_refusal (Err r) h = refused r h

@@ -3,12 +3,16 @@
 -- Assumes nothing.
 use mathlib.Core.Path.{◌≡◌, refl, sym, ap, ◌∙◌}
 use mathlib.Core.Bool.{Bool, true, false, cond, ◌&&◌}
-use Prim.Native.Nat.{ℕ, suc, ◌<◌, ◌≤◌}
+use Prim.Native.Nat.{ℕ, ◌<◌, ◌≤◌}
 use native.Mathlib.Omega.{arith}
+use Rattle.std.proofs.Common.{Err}
 use lib.Dec.{eqb}
 use lib.ListN.{length, get_or, set, replicate, length-set, get_or-eq_default}
 use lib.Seq.{set-get_or}
 use borrow.Author.Tests.{le-ltb}
+use Rattle.refusals.specs.Refusal.{Verdict}
+use Rattle.refusals.specs.declared.Refusal.{Refusal}
+use Rattle.refusals.specs.declared.Refusal.TheVariants.{StaleNumber}
 use Rattle.masks.specs.Mask.{any, mask, count}
 use Rattle.masks.proofs.Sets.{has}
 use Rattle.modes.specs.Modes.{mode}
@@ -32,24 +36,20 @@ use Rattle.server.proofs.Heard.{on_changed, on_itself, set_at, only_has, greets,
 use Rattle.server.proofs.InTheWay.{none_clashes, any_both, wanted_on, is_in_the_way, holders, kept_holders, live_holders, has_demanded, is_demanded}
 
 -- "Refusals 1 to 6 change nothing."
-pub refused : (wait : ℕ) (s : Server) (now : ℕ) (e : Event) (n : ℕ) → refusal s.settings s.reading now e ≡ suc n →
-    step wait s now e ≡ record { server = s; answer = Refused (suc n) }
+pub refused : (wait : ℕ) (s : Server) (now : ℕ) (e : Event) (r : Refusal) → refusal s.settings s.reading now e ≡ Err r →
+    step wait s now e ≡ record { server = s; answer = Refused r }
 unfolding step
-refused wait s now e n h = ap (λ (n : ℕ). if_good n wait s now e) h
+refused wait s now e r h = ap (λ (v : Verdict). if_good v wait s now e) h
 
 -- what a station that is not known is told
 unwelcome : (q : Request) → (q ≡ Hello → ⊥) → (m : Member) (x : Profile) → welcome q m x ≡ answered m x (Nack 1)
 unfolding welcome
-unwelcome Hello h m x = absurd (h refl)
-unwelcome KeepAlive h m x = refl
-unwelcome (Ask p a) h m x = refl
-unwelcome (Release p) h m x = refl
-unwelcome (Keep p) h m x = refl
+unwelcome q h m x = grind arith
 
 module _ (wait : ℕ) (s : Server) (now i k : ℕ) (sized : Sized s) where
   module _ (q : Request) (accepted : Accepted s now (Message i k q)) where
     -- "A message number not above the station's last one is refusal 7." "7 changes the server's reading only."
-    pub stale : k ≤ last_of s i → step wait s now (Message i k q) ≡ record { server = at_reading s now; answer = Refused 7 }
+    pub stale : k ≤ last_of s i → step wait s now (Message i k q) ≡ record { server = at_reading s now; answer = Refused StaleNumber }
     unfolding if_new
     stale old =
         by_newness wait s now i k q accepted false (le-ltb (last_of s i) k old)

@@ -4,6 +4,7 @@ use mathlib.Core.Path.{◌≡◌, refl, sym, ap, ◌∙◌}
 use mathlib.Core.Bool.{Bool, true, false, cond}
 use mathlib.Core.List.{List, [], ◌∷◌, map}
 use Prim.Native.Nat.{ℕ, zero, suc, ◌<◌}
+use native.Mathlib.Omega.{arith}
 use native.Mathlib.Nat.{not-suc-le-zero, le_of_suc-le-suc}
 use lib.Dec.{eqb}
 use lib.ListN.{length, get_or, set, replicate, length-set, length-map}
@@ -17,8 +18,7 @@ use Rattle.server.specs.State.{Profile, no_profile, mode_in}
 use Rattle.profiles.specs.Sets.{only_of, no_mode, wiped}
 
 pub cond_same : {A : Type 0} (b : Bool) (x : A) → cond b x x ≡ x
-cond_same true x = refl
-cond_same false x = refl
+cond_same b x = grind arith
 
 -- the mode of station j on profile p in a list of profiles
 abbrev pub entry : List Profile → ℕ → ℕ → ℕ
@@ -44,8 +44,7 @@ only_other (suc n) (suc i) (suc j) h = only_other n i j (λ e. h (ap suc e))
 
 -- a set of stations loses its modes: the others keep theirs
 chosen : (b : Bool) (m : Mode) → (cond b (mode 0) m).0 ≡ cond b 0 m.0
-chosen true m = refl
-chosen false m = refl
+chosen b m = grind arith
 
 pub mode_wiped : (s : Set) (x : Profile) (j : ℕ) → mode_in (wiped s x) j ≡ cond (has s j) 0 (mode_in x j)
 unfolding wiped

@@ -1,13 +1,15 @@
 -- From what was heard of a message to the tables: what Events needs of the representation.
 -- Assumes nothing.
-use mathlib.Core.Path.{◌≡◌, refl, sym, ap, ◌∙◌}
+use mathlib.Core.Path.{◌≡◌, refl, ap, ◌∙◌}
 use mathlib.Core.Bool.{Bool, true, false, cond}
 use mathlib.Core.List.{List, map}
 use Prim.Native.Nat.{ℕ, ◌<◌}
+use native.Mathlib.Omega.{arith}
 use lib.Dec.{eqb, ltb}
 use lib.ListN.{length, get_or, set, length-set}
 use lib.Seq.{get_or-set_same, get_or-set_other, set-get_or}
-use borrow.Author.Tests.{eqb-true, eqb-false, lt-ltb}
+use borrow.Author.Tests.{lt-ltb}
+use Rattle.refusals.specs.Refusal.{Verdict}
 use Rattle.masks.specs.Mask.{Set}
 use Rattle.masks.proofs.Sets.{has}
 use Rattle.server.specs.State.{Status, Live, Mark, Unmarked, Member, Profile, Server, nobody, no_profile, member_at, profile_at, mode_in, mark_in, status_of, last_of, mode_of, mark_of}
@@ -24,11 +26,7 @@ use Rattle.server.proofs.Serves.{Sized, Accepted, at, changed_at, all_of, no_loc
 
 -- one element of a list replaced, seen through f
 pub set_at : {A B : Type 0} (f : A → B) (l : List A) (i : ℕ) (x d : A) → i < length l → (j : ℕ) → f (get_or (set l i x) j d) ≡ at i (f x) (λ (j : ℕ). f (get_or l j d)) j
-set_at f l i x d h j = by_test (eqb j i) refl
-  where
-    by_test : (b : Bool) → eqb j i ≡ b → f (get_or (set l i x) j d) ≡ cond b (f x) (f (get_or l j d))
-    by_test true e = ap (λ (n : ℕ). f (get_or (set l i x) n d)) (eqb-true j i e) ∙ ap f (get_or-set_same l i x d h)
-    by_test false e = ap f (get_or-set_other l i j x d (eqb-false j i e))
+set_at f l i x d h j = grind (arith, get_or-set_same l i x d h, get_or-set_other l i j x d)
 
 -- a table whose entries on profile p are another table's, and what it is where that has some of its own changed
 module _ {A : Type 0} where
@@ -38,21 +36,13 @@ module _ {A : Type 0} where
   module _ (p : ℕ) (f : ℕ → A) (g : ℕ → ℕ → A) where
     pub on_changed : (test : Bool → ℕ → Bool) (h : A → A) → ((j : ℕ) → test false j ≡ false) → ((j : ℕ) → f j ≡ cond (test true j) (h (g j p)) (g j p)) →
         (j q : ℕ) → on p f g j q ≡ changed_at (λ (j q : ℕ). test (eqb q p) j) h g j q
-    on_changed test h others here j q = by_test (eqb q p) refl
-      where
-        by_test : (b : Bool) → eqb q p ≡ b → cond b (f j) (g j q) ≡ cond (test b j) (h (g j q)) (g j q)
-        by_test true e = here j ∙ ap (λ (n : ℕ). cond (test true j) (h (g j n)) (g j n)) (sym (eqb-true q p e))
-        by_test false e = sym (ap (λ (b : Bool). cond b (h (g j q)) (g j q)) (others j))
+    on_changed test h others here j q = grind (arith, here j, others j)
 
     pub on_itself : ((j : ℕ) → f j ≡ g j p) → (j q : ℕ) → on p f g j q ≡ g j q
     on_itself h = on_changed (λ (b : Bool) (j : ℕ). false) (λ (a : A). a) (λ j. refl) h
 
 pub only_has : (i j : ℕ) → i < 16 → has (only i) j ≡ eqb j i
-only_has i j h = by_test (eqb j i) refl
-  where
-    by_test : (b : Bool) → eqb j i ≡ b → has (only i) j ≡ b
-    by_test true e = let same : j ≡ i = eqb-true j i e in rw same (only_same 16 i h)
-    by_test false e = only_other 16 i j (eqb-false j i e)
+only_has i j h = grind (arith, only_same 16 i h, only_other 16 i j)
 
 -- after a message, from what was heard
 module _ (s : Server) (now i k p : ℕ) (sized : Sized s) (station : i < 16) (profile : p < 64) where
@@ -103,7 +93,7 @@ module _ (wait : ℕ) (s : Server) (now i k : ℕ) (q : Request) (accepted : Acc
       ≡ after_heard s now i (profile_of q) (if_new b (live_set s.members) now i k q (member_at s i) (profile_at s (profile_of q)))
   unfolding step message hear
   by_newness b e =
-      ap (λ (n : ℕ). if_good n wait s now (Message i k q)) accepted
+      ap (λ (v : Verdict). if_good v wait s now (Message i k q)) accepted
       ∙ ap (λ (b : Bool). after_heard s now i (profile_of q) (if_new b (live_set s.members) now i k q (member_at s i) (profile_at s (profile_of q)))) e
 
   -- "Every other message raises the last number, then:"

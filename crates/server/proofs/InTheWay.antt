@@ -1,15 +1,16 @@
 -- Who stands in the way of an ask, over the accessors: the sets that the ask rule tests and demands of, at any place.
 -- Assumes nothing.
 use mathlib.Core.Path.{◌≡◌, refl, sym, ap, ◌∙◌}
-use mathlib.Core.Bool.{Bool, true, false, ◌&&◌, ◌||◌, not, false≢true}
+use mathlib.Core.Bool.{Bool, true, false, ◌&&◌, not}
 use mathlib.Core.List.{List, [], ◌∷◌}
 use Prim.Native.Nat.{ℕ, zero, suc, ◌+◌}
+use native.Mathlib.Omega.{arith}
 use native.Mathlib.Nat.{zero-add}
 use lib.Dec.{eqb}
 use lib.ListN.{get_or}
-use borrow.Author.Tests.{not-false, eqb-false, ne_eqb}
+use borrow.Author.Tests.{not-false, ne_eqb}
 use Rattle.masks.specs.Mask.{Set, any, both}
-use Rattle.masks.proofs.Sets.{has, no_right, has_both, has_none, has_at, has_those}
+use Rattle.masks.proofs.Sets.{has, has_both, has_none, has_at, has_those}
 use Rattle.modes.specs.Modes.{mode, goes_with}
 use Rattle.modes.specs.declared.Mode.{Mode}
 use Rattle.modes.proofs.Laws.{symmetric, none_goes}
@@ -22,7 +23,7 @@ has_live ms j = has_those (λ (m : Member). is_live m.status) nobody ms j (λ h.
 
 -- no lock goes with every mode
 pub none_clashes : (me wanted j : ℕ) → clashes me wanted j (mode 0) ≡ false
-none_clashes me wanted j = ap (λ (b : Bool). not (eqb j me) && not b) (symmetric wanted 0 ∙ none_goes wanted) ∙ no_right (not (eqb j me))
+none_clashes me wanted j = grind (arith, symmetric wanted 0, none_goes wanted)
 
 pub has_conflicts : (me wanted : ℕ) (row : List Mode) (j : ℕ) → has (conflicts me wanted row) j ≡ clashes me wanted j (get_or row j (mode 0))
 unfolding conflicts
@@ -32,19 +33,17 @@ has_conflicts me wanted row j =
 -- nobody in a set, or somebody
 any_none : (t : Set) → ((j : ℕ) → has t j ≡ false) → any t ≡ false
 any_none [] h = refl
-any_none (b ∷ t) h = ap (λ (a : Bool). a || any t) (h 0) ∙ any_none t (λ j. h (suc j))
+any_none (b ∷ t) h = rw (h 0) (any_none t (λ j. h (suc j)))
 
 any_some : (t : Set) (j : ℕ) → has t j ≡ true → any t ≡ true
-any_some [] j h = absurd (false≢true h)
-any_some (b ∷ t) zero h = ap (λ (a : Bool). a || any t) h
-any_some (true ∷ t) (suc j) h = refl
-any_some (false ∷ t) (suc j) h = any_some t j h
+any_some [] j h = grind arith
+any_some (b ∷ t) zero h = rw h refl
+any_some (b ∷ t) (suc j) h = grind (arith, any_some t j)
 
 pub any_both : (t u : Set) → any (both t u) ≡ true → any t ≡ true
 any_both [] u h = h
-any_both (a ∷ t) [] h = absurd (false≢true h)
-any_both (true ∷ t) (b ∷ u) h = refl
-any_both (false ∷ t) (b ∷ u) h = any_both t u h
+any_both (a ∷ t) [] h = grind arith
+any_both (a ∷ t) (b ∷ u) h = grind (arith, any_both t u)
 
 -- "the wanted mode is the join of the held and asked ones"
 abbrev pub wanted_on : Server → ℕ → ℕ → ℕ → ℕ
@@ -91,8 +90,7 @@ module _ (s : Server) (i p asked : ℕ) where
   goes_free h = any_none (holders s i p asked) (λ j. has_holders j ∙ by_test j (eqb j i) refl)
     where
       by_test : (j : ℕ) (b : Bool) → eqb j i ≡ b → (not b && not (goes_with (wanted_on s i p asked) (mode_of s j p))) ≡ false
-      by_test j true e = refl
-      by_test j false e = ap not (h j (eqb-false j i e))
+      by_test j b e = grind (arith, h j)
 
   -- somebody in the way, and "if any such holder has a kept mark", both ways
   pub some_holder : (j : ℕ) → is_in_the_way s i p asked j ≡ true → any (holders s i p asked) ≡ true

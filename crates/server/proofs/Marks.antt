@@ -4,6 +4,7 @@ use mathlib.Core.Path.{◌≡◌, refl, sym, ap, ◌∙◌}
 use mathlib.Core.Bool.{Bool, true, false, cond}
 use mathlib.Core.List.{List, [], ◌∷◌, map}
 use Prim.Native.Nat.{ℕ, zero, suc, ◌<◌, ◌≤◌}
+use native.Mathlib.Omega.{arith}
 use lib.Dec.{eqb}
 use lib.ListN.{length, get_or, set, replicate}
 use lib.Seq.{get_or-set_same, get_or-set_other}
@@ -11,7 +12,6 @@ use borrow.Author.Tests.{eqb-true, eqb-false}
 use Rattle.masks.specs.Mask.{Set}
 use Rattle.masks.proofs.Sets.{has, changed, length_changed}
 use Rattle.server.specs.State.{Mark, Unmarked, Marked, Profile, no_mark, as_mark, no_profile, mark_in}
-use Rattle.members.specs.Mark.{as_word}
 use Rattle.members.proofs.Words.{Stored, stored_mark, stored_wipe}
 use Rattle.profiles.specs.Sets.{wipe_mark, remark, marks_changed, wiped}
 use Rattle.server.proofs.Frames.{cond_same, Whole, whole_wiped, whole_set}
@@ -29,8 +29,7 @@ marks_length f s marks = length_changed (remark f) s marks
 -- marks changed in a set, to such as a word can hold: the others are as they were
 module _ (f : Mark → Mark) (held : (k : Mark) → Stored k → Stored (f k)) where
   chosen : (b : Bool) (m : Marked) → as_mark (cond b (remark f m) m) ≡ cond b (f (as_mark m)) (as_mark m)
-  chosen true m = held (as_mark m) (stored_mark m)
-  chosen false m = refl
+  chosen b m = grind (arith, held (as_mark m) (stored_mark m))
 
   pub mark_changed : (s : Set) (marks : List Marked) (j : ℕ) → (length marks ≤ j → cond (has s j) (remark f no_mark) no_mark ≡ no_mark) →
       mark_at (marks_changed f s marks) j ≡ cond (has s j) (f (mark_at marks j)) (mark_at marks j)
@@ -42,8 +41,7 @@ module _ (f : Mark → Mark) (held : (k : Mark) → Stored k → Stored (f k)) w
     mark_eased s marks j = mark_changed s marks j (λ h. none (has s j))
       where
         none : (b : Bool) → cond b (remark f no_mark) no_mark ≡ no_mark
-        none true = ap as_word eases
-        none false = refl
+        none b = grind (arith, eases)
 
     -- in the set of everyone
     pub all_eased : (marks : List Marked) (j : ℕ) → mark_at (marks_changed f (replicate (length marks) true) marks) j ≡ f (mark_at marks j)

@@ -36,8 +36,7 @@ module _ (z : Settings) (σ τ : ℕ → Status) (μ : ℕ → ℕ → ℕ) (ν 
   still j q h = (by_gone (gone j q), by_marked (marked j q) refl)
     where
       by_gone : (b : Bool) → cond b 0 (μ j q) ≡ 0
-      by_gone true = refl
-      by_gone false = h.0
+      by_gone b = grind (arith, h.0)
 
       by_marked : (b : Bool) → marked j q ≡ b → cond b (f (ν j q)) (ν j q) ≡ Unmarked
       by_marked true e = ap f h.1 ∙ eases j q e h.0
@@ -54,13 +53,10 @@ module _ (z : Settings) (σ τ : ℕ → Status) (μ : ℕ → ℕ → ℕ) (ν 
       }
     where
       both : (a b : Bool) (m n : ℕ) → goes_with m n ≡ true → goes_with (cond a 0 m) (cond b 0 n) ≡ true
-      both true b m n h = none_goes (cond b 0 n)
-      both false true m n h = symmetric m 0 ∙ none_goes m
-      both false false m n h = h
+      both a b m n h = grind (arith, none_goes, symmetric m 0)
 
       less : (b : Bool) (m : ℕ) → m ≤ 6 → cond b 0 m ≤ 6
-      less true m h = omega arith
-      less false m h = h
+      less b m h = grind arith
 
       by_cause : (i p : ℕ) → (σ i ≡ Unknown) ⊎ Nothing (changed_at gone no_lock μ) (changed_at marked f ν) i p → Nothing (changed_at gone no_lock μ) (changed_at marked f ν) i p
       by_cause i p (inl h) = still i p (o.unknown i p h)
@@ -80,18 +76,13 @@ module _ (z : Settings) (σ : ℕ → Status) (μ : ℕ → ℕ → ℕ) (ν : �
       }
     where
       known : (a : ℕ) → σ a ≡ Unknown → a ≡ i → ⊥
-      known a h e =
-          let k : σ a ≡ Live = ap σ e ∙ live in
-          let z : ◌≡◌ {A = ℕ} 0 1 = cc in
-          omega arith
+      known a h e = grind arith
 
       less : (b : Bool) (m : ℕ) → m ≤ 6 → cond b wanted m ≤ 6
-      less true m h = fits
-      less false m h = h
+      less b m h = grind (arith, fits)
 
       other : (a q : ℕ) → ((q ≡ p) × (a ≡ i) → ⊥) → (b : Bool) → own i p a q ≡ b → cond b wanted (μ a q) ≡ μ a q
-      other a q h true e = absurd (h (own_so i p a q e))
-      other a q h false e = refl
+      other a q h b e = grind (arith, own_so i p a q)
 
       both : (a b q : ℕ) → (a ≡ b → ⊥) → (x y : Bool) → own i p a q ≡ x → own i p b q ≡ y → goes_with (cond x wanted (μ a q)) (cond y wanted (μ b q)) ≡ true
       both a b q h true true e k = absurd (h ((own_so i p a q e).1 ∙ sym (own_so i p b q k).1))

@@ -134,8 +134,7 @@ module _ (z : Settings) (wait : ℕ) (s : Server) (now : ℕ) (g : Sound z s) wh
       (λ j q e. inl (by_test j (eqb j i) e)) (λ j e. at_other i Live (status_of s) j (λ d. omega (arith, d)) ∙ g.tables.stations j e))
     where
       by_test : (j : ℕ) (b : Bool) → cond b Live (status_of s j) ≡ Unknown → status_of s j ≡ Unknown
-      by_test j true e = cc
-      by_test j false e = e
+      by_test j b e = grind arith
 
   sound_tick : Accepted s now Tick → Sound z (step wait s now Tick).server
   sound_tick accepted =
@@ -151,12 +150,10 @@ module _ (z : Settings) (wait : ℕ) (s : Server) (now : ℕ) (g : Sound z s) wh
       freed j q false e = inl (by_test (is_late_in s now j && is_live (status_of s j)) e)
         where
           by_test : (b : Bool) → cond b (TimingOut now) (status_of s j) ≡ Unknown → status_of s j ≡ Unknown
-          by_test true k = cc
-          by_test false k = k
+          by_test b k = grind arith
 
       outside : (b : Bool) → started_to now b Unknown ≡ Unknown
-      outside true = refl
-      outside false = refl
+      outside b = grind arith
 
   -- the message's station and profile are among those of the settings
   pub below : (i k : ℕ) (q : Request) → Accepted s now (Message i k q) → (i < z.stations) × (profile_of q < z.profiles)

@@ -1,6 +1,6 @@
 -- Runs of messages: one message more, and the demands to the stations of a mask one after another.
 -- Assumes nothing.
-use mathlib.Core.Path.{◌≡◌, refl, sym, ap, ◌∙◌}
+use mathlib.Core.Path.{◌≡◌, sym, ap, ◌∙◌}
 use mathlib.Core.Bool.{Bool, true, false, cond}
 use mathlib.Core.List.{List, [], ◌∷◌, ◌++◌, append_assoc, append-nil}
 use Prim.Native.Nat.{ℕ, suc, ◌+◌, ◌-◌, ◌/◌, ◌%◌, ◌<◌, ◌≤◌}
@@ -8,13 +8,13 @@ use native.Mathlib.Omega.{arith}
 use lib.Dec.{eqb}
 use lib.ListN.{length, set, replicate, length-append}
 use lib.Seq.{set-append_seam, take-append_seam}
-use borrow.Author.Tests.{lt-ltb}
+use borrow.Author.Tests.{lt-ltb, eq-eqb, ne_eqb}
 use Rattle.record.specs.declared.message.Message.{Message}
 use Rattle.writer.specs.declared.run.Run.{Run}
 use Rattle.record.specs.Message.{message}
 use Rattle.writer.specs.Run.{messages_of}
 use Rattle.server.specs.Border.{first_if, demands_from}
-use Rattle.server.specs.Run.{blank, most, run_of, pushed, added}
+use Rattle.server.specs.Run.{blank, most, run_of, pushed}
 
 -- the array after one message more
 room : (l : List Message) (m : Message) (k : ℕ) → set (l ++ replicate (suc k) blank) (length l) m ≡ (l ++ (m ∷ [])) ++ replicate k blank
@@ -52,26 +52,21 @@ module _ (j w p v : ℕ) (total : List Message) (in_order : j < 16) where
       left l
       ∙ ap (λ (b : Bool). l ++ first_if b (message 8 j 0 p v 0) (demands_from (15 - j) (suc j) (w / 2) p v)) q
 
-  added_is : (t : Bool) → eqb (w % 2) 1 ≡ t → (run : Run) → added w (message 8 j 0 p v 0) run ≡ cond t (pushed (message 8 j 0 p v 0) run) run
-  unfolding added
-  added_is t q run = ap (λ (b : Bool). cond b (pushed (message 8 j 0 p v 0) run) run) q
+  pub demanded : (run : Run) → w % 2 ≡ 1 → Turned j w p v total run → Turned (j + 1) (w / 2) p v total (pushed (message 8 j 0 p v 0) run)
+  demanded run odd (l, (is, (short, all))) =
+      let m = message 8 j 0 p v 0 in (
+        l ++ (m ∷ []),
+        (
+          ap (pushed m) is ∙ run_more l m (omega arith),
+          (
+            omega (arith, length_more l m),
+            sym (on (l ++ (m ∷ []))) ∙ append_assoc l (m ∷ []) (demands_from (15 - j) (suc j) (w / 2) p v) ∙ sym (first_is true (eq-eqb (w % 2) 1 odd) l) ∙ all,
+          ),
+        ),
+      )
 
-  pub turned : (run next : Run) → next ≡ added w (message 8 j 0 p v 0) run → Turned j w p v total run → Turned (j + 1) (w / 2) p v total next
-  turned run next e (l, (is, (short, all))) = by_test (eqb (w % 2) 1) refl
-    where
-      by_test : (t : Bool) → eqb (w % 2) 1 ≡ t → Turned (j + 1) (w / 2) p v total next
-      by_test true q =
-          let m = message 8 j 0 p v 0 in (
-            l ++ (m ∷ []),
-            (
-              e ∙ added_is true q run ∙ ap (pushed m) is ∙ run_more l m (omega arith),
-              (
-                omega (arith, length_more l m),
-                sym (on (l ++ (m ∷ []))) ∙ append_assoc l (m ∷ []) (demands_from (15 - j) (suc j) (w / 2) p v) ∙ sym (first_is true q l) ∙ all,
-              ),
-            ),
-          )
-      by_test false q = (l, (e ∙ added_is false q run ∙ is, (omega arith, sym (on l) ∙ sym (first_is false q l) ∙ all)))
+  pub passed_over : (run : Run) → (w % 2 ≡ 1 → ⊥) → Turned j w p v total run → Turned (j + 1) (w / 2) p v total run
+  passed_over run even (l, (is, (short, all))) = (l, (is, (omega arith, sym (on l) ∙ sym (first_is false (ne_eqb (w % 2) 1 even) l) ∙ all)))
 
 -- after the last station
 pub finished : (j w p v : ℕ) (total : List Message) (run : Run) → 16 ≤ j → Turned j w p v total run → run ≡ run_of total

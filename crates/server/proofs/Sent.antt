@@ -1,28 +1,25 @@
 -- What a server hears of a request, and what it sends for an answer: the one ACK or NACK goes to the asker and has the number asked; no demand is an ACK.
 -- Assumes nothing.
-use mathlib.Core.Path.{◌≡◌, refl, sym, ap, ◌∙◌}
+use mathlib.Core.Path.{◌≡◌, ap}
 use mathlib.Core.Bool.{Bool, true, false}
 use mathlib.Core.List.Memᴰ
 use mathlib.Core.List.{List, Memᴰ}
 use mathlib.Core.Logic.{◌⊎◌, inl, inr}
 use Prim.Native.Nat.{ℕ, zero, suc, ◌/◌, ◌%◌}
 use native.Mathlib.Omega.{arith}
+use Rattle.std.proofs.Common.{Some}
 use lib.Dec.{eqb}
 use Rattle.record.specs.declared.message.Message.{Message}
 use Rattle.server.specs.State.{Status, Live}
-use Rattle.server.specs.Event.{Request, Hello, KeepAlive, Ask, Release, Keep, Message as Said, Answer, Done, Granted, Wait, InUse, Nack, Ticked, Refused}
+use Rattle.server.specs.Event.{Request, Message as Said, Answer, Done, Granted, Wait, InUse, Nack, Ticked, Refused}
 use Rattle.record.specs.Message.{message}
 use Rattle.requests.specs.Request.{message_of, request_of}
-use Rattle.server.specs.Border.{For, event_of, first_if, demands_from, sent_for}
+use Rattle.server.specs.Border.{event_of, first_if, demands_from, sent_for}
 
 -- what a station says reaches the server as it was meant
-pub heard_back_lem : (i k : ℕ) (q : Request) → event_of (message_of i k q) ≡ For (Said i k q)
+pub heard_back_lem : (i k : ℕ) (q : Request) → event_of (message_of i k q) ≡ Some (Said i k q)
 unfolding event_of request_of message_of
-heard_back_lem i k Hello = refl
-heard_back_lem i k KeepAlive = refl
-heard_back_lem i k (Ask p m) = refl
-heard_back_lem i k (Release p) = refl
-heard_back_lem i k (Keep p) = refl
+heard_back_lem i k q = grind arith
 
 -- every ACK among the messages is to station i, of number k, from a server that has it live; and what it grants is the station's mode
 abbrev pub Acks : ℕ → ℕ → Status → (ℕ → ℕ) → List Message → Type 0
@@ -47,7 +44,7 @@ no_ack_in (suc n) j w p wanted m h e = by_test (no_ack_in n (suc j) (w / 2) p wa
   where
     first : (Memᴰ m (demands_from n (suc j) (w / 2) p wanted) → m.kind ≡ 6 → ⊥) →
         (m ≡ message 8 j 0 p wanted 0) ⊎ Memᴰ m (demands_from n (suc j) (w / 2) p wanted) → ⊥
-    first rest (inl q) = let k : m.kind ≡ 8 = ap (λ (x : Message). x.kind) q in omega arith
+    first rest (inl q) = grind arith
     first rest (inr q) = rest q e
 
     by_test : (Memᴰ m (demands_from n (suc j) (w / 2) p wanted) → m.kind ≡ 6 → ⊥) → (b : Bool) →
@@ -59,19 +56,14 @@ module _ (i k : ℕ) (σ : Status) (f : ℕ → ℕ) where
   -- an ACK that grants nothing
   plain : (p d : ℕ) → (d ≡ 1 → ⊥) → σ ≡ Live → (m : Message) → m ≡ message 6 i k p 0 d →
       (m.station ≡ i) × (m.number ≡ k) × (σ ≡ Live) × (m.detail ≡ 1 → f m.profile ≡ m.mode)
-  plain p d other live m e =
-      (ap (λ (x : Message). x.station) e, ap (λ (x : Message). x.number) e, live, λ q. absurd (other (sym (ap (λ (x : Message). x.detail) e) ∙ q)))
+  plain p d other live m e = (grind arith, grind arith, live, λ q. absurd (other (grind arith)))
 
   pub acks_of : (a : Answer) → Sure a σ f → Acks i k σ f (sent_for i k a)
   unfolding sent_for
   acks_of Done h m q e = plain 255 0 (omega arith) h m (Memᴰ.eq_of_singleton q)
   acks_of (Granted p x) h m q e =
-      let s = Memᴰ.eq_of_singleton q in (
-        ap (λ (x : Message). x.station) s,
-        ap (λ (x : Message). x.number) s,
-        h.0,
-        λ d. ap (λ (x : Message). f x.profile) s ∙ h.1 ∙ sym (ap (λ (x : Message). x.mode) s),
-      )
+      let s = Memᴰ.eq_of_singleton q in
+      (ap (λ (x : Message). x.station) s, ap (λ (x : Message). x.number) s, h.0, λ d. grind (arith, s, h.1))
   acks_of (Wait p x mask count) h m q e = by_place (Memᴰ.cases_cons q)
     where
       by_place : (m ≡ message 6 i k p 0 2) ⊎ Memᴰ m (demands_from 16 0 mask p x.0) →

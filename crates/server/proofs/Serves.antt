@@ -1,12 +1,13 @@
 -- The form of the frame laws: what an event answers, and the four tables of statuses, last numbers, modes and marks as they are then,
 -- entry by entry. The laws themselves are in Events and Ticks.
 -- Assumes nothing.
-use mathlib.Core.Path.{◌≡◌, refl, sym, ap, subst, ◌∙◌}
-use mathlib.Core.Bool.{Bool, true, false, cond, ◌&&◌, and-eq-true_iff}
+use mathlib.Core.Path.{◌≡◌, sym, subst, ◌∙◌}
+use mathlib.Core.Bool.{Bool, true, false, cond, ◌&&◌}
 use Prim.Native.Nat.{ℕ}
+use Rattle.std.proofs.Common.{Ok}
+use native.Mathlib.Omega.{arith}
 use lib.Dec.{eqb}
 use lib.ListN.{length}
-use borrow.Author.Tests.{eqb-true, ne_eqb, eq-eqb}
 use Rattle.server.specs.State.{Status, Mark, Server, status_of, last_of, mode_of, mark_of}
 use Rattle.server.specs.Event.{Request, Event, Message, Answer}
 use Rattle.judging.specs.Refusal.{refusal}
@@ -20,7 +21,7 @@ pub record Sized (s : Server) : Type 0 where
 
 -- none of the refusals 1 to 6 applies
 abbrev pub Accepted : Server → ℕ → Event → Type 0
-Accepted s now e = refusal s.settings s.reading now e ≡ 0
+Accepted s now e = refusal s.settings s.reading now e ≡ Ok tt
 
 -- tables by station, and by station and profile, with some entries changed and every other as it was
 module _ {A : Type 0} where
@@ -63,39 +64,31 @@ Told wait s now i k q answer σ μ ν = Serves s now (step wait s now (Message i
 -- r.mode j q ∙ changed_other (own i p) no_lock (mode_of s) j q (own_other i p j q h) : its mode is as it was.
 module _ {A : Type 0} (i : ℕ) (v : A) (f : ℕ → A) where
   pub at_same : at i v f i ≡ v
-  at_same = ap (λ (b : Bool). cond b v (f i)) (eq-eqb i i refl)
+  at_same = grind arith
 
   pub at_other : (j : ℕ) → (j ≡ i → ⊥) → at i v f j ≡ f j
-  at_other j h = ap (λ (b : Bool). cond b v (f j)) (ne_eqb j i h)
+  at_other j h = grind arith
 
 module _ {A : Type 0} (test : ℕ → ℕ → Bool) (g : A → A) (f : ℕ → ℕ → A) (j q : ℕ) where
   pub changed_here : test j q ≡ true → changed_at test g f j q ≡ g (f j q)
-  changed_here e = ap (λ (b : Bool). cond b (g (f j q)) (f j q)) e
+  changed_here e = grind arith
 
   pub changed_other : test j q ≡ false → changed_at test g f j q ≡ f j q
-  changed_other e = ap (λ (b : Bool). cond b (g (f j q)) (f j q)) e
+  changed_other e = grind arith
 
 module _ (i p : ℕ) where
   pub own_here : own i p i p ≡ true
-  own_here = ap (λ (b : Bool). b && eqb i i) (eq-eqb p p refl) ∙ eq-eqb i i refl
+  own_here = grind arith
 
   pub own_so : (j q : ℕ) → own i p j q ≡ true → (q ≡ p) × (j ≡ i)
-  own_so j q e = let h = (and-eq-true_iff (eqb q p) (eqb j i)).0 e in (eqb-true q p h.0, eqb-true j i h.1)
+  own_so j q e = (grind arith, grind arith)
 
   pub own_other : (j q : ℕ) → ((q ≡ p) × (j ≡ i) → ⊥) → own i p j q ≡ false
-  own_other j q h = by_test (own i p j q) refl
-    where
-      by_test : (b : Bool) → own i p j q ≡ b → b ≡ false
-      by_test true e = absurd (h (own_so j q e))
-      by_test false e = refl
+  own_other j q h = grind arith
 
 -- an entry set to what it was
 pub at_itself : {A : Type 0} (i : ℕ) (f : ℕ → A) (j : ℕ) → at i (f i) f j ≡ f j
-at_itself i f j = by_test (eqb j i) refl
-  where
-    by_test : (b : Bool) → eqb j i ≡ b → cond b (f i) (f j) ≡ f j
-    by_test true e = ap f (sym (eqb-true j i e))
-    by_test false e = refl
+at_itself i f j = grind arith
 
 -- the same said of another value, and by other tables
 module _ {s : Server} {now : ℕ} {a : Answer} {σ : ℕ → Status} {κ : ℕ → ℕ} {μ : ℕ → ℕ → ℕ} {ν : ℕ → ℕ → Mark} where

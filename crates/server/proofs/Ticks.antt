@@ -4,7 +4,9 @@ use mathlib.Core.Path.{◌≡◌, refl, sym, ap, ◌∙◌}
 use mathlib.Core.Bool.{Bool, true, false, cond, ◌&&◌, ◌||◌}
 use mathlib.Core.List.{List, [], ◌∷◌, map}
 use Prim.Native.Nat.{ℕ, zero, suc, ◌≤◌}
+use native.Mathlib.Omega.{arith}
 use lib.ListN.{length, get_or, get_or-eq_default}
+use Rattle.refusals.specs.Refusal.{Verdict}
 use Rattle.masks.specs.Mask.{Set, mask}
 use Rattle.masks.proofs.Sets.{has, no_right, has_both, has_either, has_those, changed, length_changed}
 use Rattle.server.specs.State.{Status, Unknown, TimingOut, Unmarked, Marked, Member, Profile, Server, nobody, no_mark, as_mark, mark_in, status_of, last_of, mode_of, mark_of}
@@ -55,15 +57,13 @@ module _ (σ : Status) (set : Set) (ms : List Member) (ends : (j : ℕ) → leng
   turned_status = ap (λ (m : Member). m.status) turned_member ∙ chosen (has set j) (get_or ms j nobody)
     where
       chosen : (b : Bool) (m : Member) → (cond b (restatus σ m) m).status ≡ cond b σ m.status
-      chosen true m = refl
-      chosen false m = refl
+      chosen b m = grind arith
 
   turned_last : (get_or (turned σ set ms) j nobody).last ≡ (get_or ms j nobody).last
   turned_last = ap (λ (m : Member). m.last) turned_member ∙ chosen (has set j) (get_or ms j nobody)
     where
       chosen : (b : Bool) (m : Member) → (cond b (restatus σ m) m).last ≡ m.last
-      chosen true m = refl
-      chosen false m = refl
+      chosen b m = grind arith
 
 -- the members and profiles once those who waited are freed
 abbrev freed_members : ℕ → Server → ℕ → List Member
@@ -122,7 +122,7 @@ module _ (wait : ℕ) (s : Server) (now : ℕ) (sized : Sized s) where
       let freed = freed_set wait now s in
       let started = started_set now (free wait now s) in
       let ms = freed_members wait s now in
-      along (ap (λ (n : ℕ). if_good n wait s now Tick) accepted)
+      along (ap (λ (v : Verdict). if_good v wait s now Tick) accepted)
       (record {
         answers = refl;
         settings = refl;

@@ -35,28 +35,22 @@ InTime s = Timed s.reading (status_of s) (mark_of s)
 -- the changes of marks make no later time than now
 module _ (now : ℕ) where
   unmarked : Asked now Unmarked
-  unmarked since e = let z : ◌≡◌ {A = ℕ} 0 1 = cc in absurd (omega arith)
+  unmarked since e = grind arith
 
   kept : Asked now Kept
-  kept since e = let z : ◌≡◌ {A = ℕ} 0 1 = cc in absurd (omega arith)
+  kept since e = grind arith
 
   just_now : Asked now (Demanded now)
-  just_now since e = let z : now ≡ since = cc in omega arith
+  just_now since e = grind arith
 
   dropped : (m : Mark) → Asked now m → Asked now (drop_kept m)
-  dropped Unmarked h = h
-  dropped (Demanded t) h = h
-  dropped Kept h = unmarked
+  dropped m h since e = grind (arith, h since)
 
   demanded : (m : Mark) → Asked now m → Asked now (demand now m)
-  demanded Unmarked h = just_now
-  demanded (Demanded t) h = h
-  demanded Kept h = just_now
+  demanded m h since e = grind (arith, h since)
 
   answered : (m : Mark) → Asked now m → Asked now (keep_mark m)
-  answered Unmarked h = h
-  answered (Demanded t) h = kept
-  answered Kept h = h
+  answered m h since e = grind (arith, h since)
 
 module _ (wait : ℕ) (s : Server) (now : ℕ) (sized : Sized s) (t : InTime s) where
   -- an event that changes some marks, and statuses to such
@@ -94,18 +88,18 @@ module _ (wait : ℕ) (s : Server) (now : ℕ) (sized : Sized s) (t : InTime s) 
   live_now i j h = by_test (eqb j i)
     where
       by_test : (b : Bool) → Waited now (cond b Live (status_of s j))
-      by_test true since e = let z : ◌≡◌ {A = ℕ} 0 1 = cc in absurd (omega arith)
+      by_test true since e = grind arith
       by_test false since e = h since e
 
   turned_now : (j : ℕ) → Waited now (status_of s j) → Waited now (started_to now (is_late_in s now j) (freed_to wait now (status_of s j)))
   turned_now j h = started (is_late_in s now j && is_live (freed_to wait now (status_of s j))) (freed_to wait now (status_of s j)) (freed (is_waited wait now (status_of s j)))
     where
       freed : (b : Bool) → Waited now (cond b Unknown (status_of s j))
-      freed true since e = let z : ◌≡◌ {A = ℕ} 0 1 = cc in absurd (omega arith)
+      freed true since e = grind arith
       freed false since e = h since e
 
       started : (b : Bool) (σ : Status) → Waited now σ → Waited now (cond b (TimingOut now) σ)
-      started true σ k since e = let z : now ≡ since = cc in omega arith
+      started true σ k since e = grind arith
       started false σ k since e = k since e
 
   timed_case : {e : Event} → Case s now e → InTime (step wait s now e).server
@@ -131,7 +125,7 @@ module _ (wait : ℕ) (s : Server) (now : ℕ) (sized : Sized s) (t : InTime s) 
 pub in_time : {z : Settings} {s : Server} → Reachable z s → InTime s
 in_time {z} first =
     record {
-      statuses = λ i since e. let h = new_unknown z i in let y : ◌≡◌ {A = ℕ} 0 1 = cc in absurd (omega arith);
-      marks = λ i p since e. let h = (new_nothing z i p).1 in let y : ◌≡◌ {A = ℕ} 0 1 = cc in absurd (omega arith);
+      statuses = λ i since e. let h = new_unknown z i in grind arith;
+      marks = λ i p since e. let h = (new_nothing z i p).1 in grind arith;
     }
 in_time {z} (next {s} wait now e r) = timed_case wait s now (sound r).lengths (in_time r) (case_of s now e)

@@ -1,22 +1,18 @@
 -- The server's borders: from a received message to an event, and from an answer to the messages that it sends.
-use Rattle.std.specs.Prelude.{Bool, true, false, List, [], ◌∷◌, ℕ, zero, suc, ◌/◌, ◌%◌, eqb}
+use Rattle.std.specs.Prelude.{Bool, true, false, List, [], ◌∷◌, ℕ, zero, suc, ◌/◌, ◌%◌, eqb, Option, Some, None}
 use Rattle.timing.specs.Limits.{most_stations}
 use Rattle.record.specs.declared.message.Message.{Message}
 use Rattle.record.specs.Message.{message}
-use Rattle.requests.specs.declared.Asked.{Asked}
-use Rattle.requests.specs.declared.Asked.TheVariants as asked
 use Rattle.requests.specs.Request.{request_of, said_request}
-use Rattle.server.specs.Event.{Message as Says, Tick, Answer, Done, Granted, Wait, InUse, Nack, Ticked, Refused}
+use Rattle.server.specs.Event.{Request, Event, Message as Says, Tick, Answer, Done, Granted, Wait, InUse, Nack, Ticked, Refused}
 use Rattle.profiles.specs.Said.{Said, said}
-pub use Rattle.server.specs.declared.border.Meant.{Meant}
-pub use Rattle.server.specs.declared.border.Meant.TheVariants.{For, NotForServer}
 
 -- "Only kinds 1 to 5 can be put to a server"
-abbrev pub meant_by : Message → Asked → Meant
-meant_by m (asked.For q) = For (Says m.station m.number q)
-meant_by m asked.Nothing = NotForServer
+abbrev pub meant_by : Message → Option Request → Option Event
+meant_by m (Some q) = Some (Says m.station m.number q)
+meant_by m None = None
 
-unfoldable pub event_of : Message → Meant
+unfoldable pub event_of : Message → Option Event
 event_of m = meant_by m (request_of m)
 
 -- an event in the paper's numbers: whether there is one; kind, station, number, profile and mode of its message (kind 0: a tick)
@@ -28,8 +24,8 @@ pub record SaidMeant : Type 0 where
   pub profile : ℕ
   pub mode : ℕ
 
-abbrev pub said_meant : Meant → SaidMeant
-said_meant (For (Says i k q)) =
+abbrev pub said_meant : Option Event → SaidMeant
+said_meant (Some (Says i k q)) =
     record {
       good = true;
       kind = (said_request q).kind;
@@ -38,8 +34,8 @@ said_meant (For (Says i k q)) =
       profile = (said_request q).profile;
       mode = (said_request q).mode;
     }
-said_meant (For Tick) = record { good = true; kind = 0; station = 0; number = 0; profile = 0; mode = 0 }
-said_meant NotForServer = record { good = false; kind = 0; station = 0; number = 0; profile = 0; mode = 0 }
+said_meant (Some Tick) = record { good = true; kind = 0; station = 0; number = 0; profile = 0; mode = 0 }
+said_meant None = record { good = false; kind = 0; station = 0; number = 0; profile = 0; mode = 0 }
 
 abbrev pub first_if : Bool → Message → List Message → List Message
 first_if true m rest = m ∷ rest

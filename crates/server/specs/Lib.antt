@@ -2,7 +2,6 @@ pub mod State
 pub mod Event
 pub mod Tick
 pub mod Step
-pub mod Sweep
 pub mod Settle
 pub mod Border
 pub mod Run

@@ -1,5 +1,5 @@
 -- A list of messages as the array and count that the writer of runs takes; blank beyond the count. No rule stands here.
-use Rattle.std.specs.Prelude.{cond, List, ◌++◌, ℕ, ◌+◌, ◌-◌, ◌%◌, eqb, ltb, length, set, replicate}
+use Rattle.std.specs.Prelude.{cond, List, ◌++◌, ℕ, ◌+◌, ◌-◌, ltb, length, set, replicate}
 use Rattle.timing.specs.Limits.{most_stations}
 use Rattle.record.specs.declared.message.Message.{Message}
 use Rattle.writer.specs.declared.run.Run.{Run}
@@ -20,7 +20,3 @@ pushed m run =
     cond (ltb run.count most)
     (record { count = run.count + 1; messages = set run.messages run.count m })
     run
-
--- under the lowest bit
-unfoldable pub added : ℕ → Message → Run → Run
-added w m run = cond (eqb (w % 2) 1) (pushed m run) run

@@ -1,5 +1,6 @@
 -- The server's step: any event at any reading. The wait is a parameter; the code puts in W.
-use Rattle.std.specs.Prelude.{Bool, true, false, List, map, ℕ, zero, suc, set}
+use Rattle.std.specs.Prelude.{Bool, true, false, List, map, ℕ, set, Ok, Err}
+use Rattle.refusals.specs.Refusal.{Verdict}
 use Rattle.masks.specs.Mask.{mask}
 use Rattle.timing.specs.declared.settings.Settings.{Settings}
 use Rattle.timing.specs.Settings.{settings_refusal}
@@ -16,7 +17,7 @@ pub use Rattle.server.specs.declared.server.Made.{Made}
 
 -- a new server, and the refusal of its settings
 abbrev pub made : Settings → Made
-made z = record { server = new_server z; refusal = settings_refusal z }
+made z = record { server = new_server z; checked = settings_refusal z }
 
 -- all that a station had goes, where it said hello
 abbrev pub wiped_if : Bool → ℕ → List Profile → List Profile
@@ -58,9 +59,9 @@ act wait s now (Message i number q) = message s now i number q
 act wait s now Tick = tick wait s now
 
 -- "Refusals 1 to 6 change nothing."
-abbrev pub if_good : ℕ → ℕ → Server → ℕ → Event → Served
-if_good zero wait s now e = act wait s now e
-if_good (suc n) wait s now e = record { server = s; answer = Refused (suc n) }
+abbrev pub if_good : Verdict → ℕ → Server → ℕ → Event → Served
+if_good (Ok _) wait s now e = act wait s now e
+if_good (Err r) wait s now e = record { server = s; answer = Refused r }
 
 unfoldable pub step : ℕ → Server → ℕ → Event → Served
 step wait s now e = if_good (refusal s.settings s.reading now e) wait s now e

@@ -4,29 +4,20 @@ ghost use Rattle.record.specs.Message.{message};
 ghost use Rattle.writer.specs.Run.{run_answer, run_content};
 ghost use Rattle.timing.specs.Limits.{most_stations};
 ghost use Rattle.server.specs.Border.{said_meant, event_of, demands_from, sent_for};
-ghost use Rattle.server.specs.Run.{blank, run_of, added};
+ghost use Rattle.server.specs.Run.{blank, run_of, pushed};
 
 use crate::event::{Answer, Event};
 use record::Message;
-use requests::Asked;
-use timing::settings::Settings;
 use writer::{Run, Written};
 
-// An event, or a message of the other side's kinds, which is the caller's to drop.
-#[derive(Clone, Copy)]
-pub enum Meant {
-    For(Event),
-    NotForServer,
-}
-
-// The event that a message is.
-pub fn event_of(m: Message) -> Meant
+// The event that a message is, or none where it is of the other side's kinds: then it is the caller's to drop.
+// Kept: a function and no TryFrom: a message and an event are both types of other crates, so the impl cannot stand here.
+#[tactic(auto, using(requests::proofs::Back::asked_told), unfolding(crate::specs::Border::event_of))]
+pub fn event_of(m: Message) -> Option<Event>
     ensures { said_meant result ≡ said_meant (event_of m) }
 {
-    match requests::request_of(m) {
-        Asked::For(request) => Meant::For(Event::Message(m.station, m.number, request)),
-        Asked::Nothing => Meant::NotForServer,
-    }
+    let request = requests::request_of(m)?;
+    Some(Event::Message(m.station, m.number, request))
 }
 
 // What stands in a run beyond its messages.
@@ -43,66 +34,33 @@ fn none() -> Message
     }
 }
 
+#[tactic(auto, unfolding(crate::specs::Run::run_of))]
 fn empty() -> Run
     ensures { result ≡ run_of [] }
 {
-    let m = none();
     Run {
         count: 0,
-        messages: [m; Run::MOST],
+        messages: [none(); Run::MOST],
     }
 }
 
+// One message more at the end, while there is room.
+fn push(run: &mut Run, m: Message)
+    ensures { run.new ≡ pushed m run.old }
+{
+    if run.count < Run::MOST {
+        run.messages[run.count] = m;
+        run.count += 1;
+    }
+}
+
+#[tactic(auto, unfolding(crate::specs::Run::run_of))]
 fn one(m: Message) -> Run
     ensures { result ≡ run_of (m ∷ []) }
 {
     let mut run = empty();
-    run.messages[0] = m;
-    run.count = 1;
+    push(&mut run, m);
     run
-}
-
-fn ack(station: u8, number: u32, profile: u8, mode: u8, detail: u8) -> Run
-    ensures { result ≡ run_of (message 6 station number profile mode detail ∷ []) }
-{
-    one(Message {
-        kind: Message::ACK,
-        station,
-        number,
-        profile,
-        mode,
-        detail,
-    })
-}
-
-fn nack(station: u8, number: u32, detail: u8) -> Run
-    ensures { result ≡ run_of (message 7 station number 255 0 detail ∷ []) }
-{
-    one(Message {
-        kind: Message::NACK,
-        station,
-        number,
-        profile: Message::NO_PROFILE,
-        mode: Message::NO_MODE,
-        detail,
-    })
-}
-
-// One message more, under the lowest bit.
-fn added(run: Run, w: u64, m: Message) -> Run
-    ensures { result ≡ added w m run }
-{
-    let count = run.count;
-    if w % 2 != 1 {
-        return run;
-    }
-    if count >= Run::MOST {
-        return run;
-    }
-    let mut next = run;
-    next.messages[count] = m;
-    next.count = count + 1;
-    next
 }
 
 // A demand for the wanted mode to each station of a set, in station order, after the ACK.
@@ -110,59 +68,96 @@ fn with_demands(first: Message, stations: u64, profile: u8, wanted: u8) -> Run
     ensures { result ≡ run_of (first ∷ demands_from most_stations 0 stations profile wanted) }
 {
     let mut run = one(first);
-    let mut w = stations;
-    let mut j: u8 = 0;
-    while (j as usize) < Settings::STATIONS {
-        let m = Message {
-            kind: Message::DEMAND,
-            station: j,
-            number: Message::NO_NUMBER,
-            profile,
-            mode: wanted,
-            detail: Message::NO_DETAIL,
-        };
-        run = added(run, w, m);
-        w = w / 2;
-        j += 1;
+    // Kept: bit by bit, since the walks of `masks` go over a list, and here there is only the set.
+    let mut rest = stations;
+    for station in 0..Message::STATIONS {
+        if rest % 2 == 1 {
+            push(
+                &mut run,
+                Message {
+                    kind: Message::DEMAND,
+                    station,
+                    number: Message::NO_NUMBER,
+                    profile,
+                    mode: wanted,
+                    detail: Message::NO_DETAIL,
+                },
+            );
+        }
+        rest /= 2;
     }
     run
 }
 
+fn ack(station: u8, number: u32, profile: u8, mode: u8, detail: u8) -> Message
+    ensures { result ≡ message 6 station number profile mode detail }
+{
+    Message {
+        kind: Message::ACK,
+        station,
+        number,
+        profile,
+        mode,
+        detail,
+    }
+}
+
+fn nack(station: u8, number: u32, detail: u8) -> Message
+    ensures { result ≡ message 7 station number 255 0 detail }
+{
+    Message {
+        kind: Message::NACK,
+        station,
+        number,
+        profile: Message::NO_PROFILE,
+        mode: Message::NO_MODE,
+        detail,
+    }
+}
+
 // The messages that answer message `number` of a station: the ACK or NACK first, then the demands in station order.
+// Kept: station and number apart, as the message that is answered has them.
+#[tactic(auto, unfolding(crate::specs::Border::sent_for))]
 pub fn messages(answer: Answer, station: u8, number: u32) -> Run
     ensures { result ≡ run_of (sent_for station number answer) }
 {
     match answer {
-        Answer::Done => ack(
+        Answer::Done => one(ack(
             station,
             number,
             Message::NO_PROFILE,
             Message::NO_MODE,
             Message::DONE,
+        )),
+        Answer::Granted(profile, mode) => one(ack(
+            station,
+            number,
+            profile,
+            mode.0,
+            Message::GRANTED,
+        )),
+        Answer::Wait(profile, wanted, holders, _) => with_demands(
+            ack(station, number, profile, Message::NO_MODE, Message::WAIT),
+            holders,
+            profile,
+            wanted.0,
         ),
-        Answer::Granted(profile, mode) => ack(station, number, profile, mode.0, Message::GRANTED),
-        Answer::Wait(profile, wanted, holders, _) => {
-            let first = Message {
-                kind: Message::ACK,
-                station,
-                number,
-                profile,
-                mode: Message::NO_MODE,
-                detail: Message::WAIT,
-            };
-            with_demands(first, holders, profile, wanted.0)
-        }
-        Answer::InUse(profile) => ack(station, number, profile, Message::NO_MODE, Message::IN_USE),
-        Answer::Nack(detail) => nack(station, number, detail),
-        Answer::Ticked(_, _) => empty(),
-        Answer::Refused(_) => empty(),
+        Answer::InUse(profile) => one(ack(
+            station,
+            number,
+            profile,
+            Message::NO_MODE,
+            Message::IN_USE,
+        )),
+        Answer::Nack(detail) => one(nack(station, number, detail)),
+        Answer::Ticked(_, _) | Answer::Refused(_) => empty(),
     }
 }
 
 // The same, written into a buffer one record after another.
+#[tactic(auto, using(crate::proofs::Runs::run_messages))]
 pub fn put_answer(buf: &mut [u8], at: usize, answer: Answer, station: u8, number: u32) -> Written
     ensures { (result ≡ run_answer 0 (sent_for station number answer) at buf.old) × (buf.new ≡ run_content (sent_for station number answer) at buf.old) }
 {
-    let run = messages(answer, station, number);
-    writer::put_run(&mut *buf, at, run)
+    writer::put_run(buf, at, messages(answer, station, number))
 }

@@ -3,36 +3,25 @@
 use mathlib.Core.Path.{◌≡◌, refl, sym, ap, ◌∙◌}
 use mathlib.Core.Bool.{Bool, true, false, ◌&&◌, ◌||◌, not, true≢false}
 use mathlib.Core.List.{List}
-use Prim.Native.Nat.{ℕ, zero, suc}
+use Prim.Native.Nat.{ℕ}
+use Rattle.std.proofs.Common.{None, Ok, Err, arith}
 use lib.Count.{ones}
 use lib.ListN.{set}
 use lib.Seq.{set-get_or}
 use Rattle.masks.specs.Mask.{mask}
 use Rattle.masks.proofs.Laws.{mask_ones}
-use Rattle.timing.specs.Settings.{lease_answer}
 use Rattle.timing.specs.Reading.{passed}
 use Rattle.timing.proofs.Choice.{both}
-use Rattle.station.specs.Event.{Hello, KeepAlive, Ask, Release, Keep, Done, Granted, Wait, InUse, Event, Send, Begin, Edit, End, WriteOut, Restart, Acked, Nacked, Demand, Hold}
+use Rattle.station.specs.Event.{Hello, KeepAlive, Ask, Release, Keep, Done, Granted, Wait, InUse, Event, Send, Begin, Edit, End, WriteOut, Restart, Acked, Nacked, Demand, Hold, Out}
 use Rattle.holds.specs.Hold.{no_hold, no_holds, hold_in}
 use Rattle.holds.specs.Stage.{is_out}
-use Rattle.room.specs.Refusal.{refusal}
+use Rattle.refusals.specs.Refusal.{Verdict}
 use Rattle.room.specs.Rules.{profile_for}
 use Rattle.station.specs.Effect.{last_after, holds_after, Answer, answer_to}
-use Rattle.station.specs.Station.{Station, Stepped, lease_of, is_over, gone, at_reading, ended_if, expire, is_restart, lost, lost_if, forbids, after, stepped, if_allowed, judged, if_good, step}
-use Rattle.station.specs.Parts.{Parts, Outcome, hold_change, answer_on, arrived_if, parts_after, if_free, outcome_of, joined}
+use Rattle.station.specs.Station.{Station, Stepped, lease_of, is_over, gone, at_reading, ended_if, expire, is_restart, lost, lost_if, refusal_of, forbids, after, stepped, if_allowed, judged, if_good, step}
+use Rattle.station.specs.Parts.{Parts, Outcome, hold_change, answer_on, parts_of, arrived_if, parts_after, if_free, outcome_of, joined}
 use Rattle.station.specs.declared.event.Answer.TheVariants as answer
 use Rattle.station.proofs.Frames.{none_held}
-use Rattle.station.proofs.Ways.{good_settings, lease_is}
-
-abbrev parts_of : Station → ℕ → Parts
-parts_of x p =
-    record {
-      standing = x.standing;
-      start = x.start;
-      last = x.last;
-      waiting = x.waiting;
-      hold = hold_in x.holds p;
-    }
 
 -- an event changes no hold but the one that it names; before a restart all are gone
 one_hold : (holds : List Hold) (e : Event) → (is_restart e ≡ true → holds ≡ no_holds)
@@ -58,15 +47,7 @@ one_hold holds (Nacked i k d) r = set-get_or holds 0 no_hold
 one_hold holds (Demand i p m) r = set-get_or holds p no_hold
 
 one_answer : (number : ℕ) (holds : List Hold) (e : Event) → answer_on number (hold_in holds (profile_for e)) e ≡ answer_to number holds e
-one_answer number holds (Send q) = refl
-one_answer number holds (Begin p m) = refl
-one_answer number holds (Edit p) = refl
-one_answer number holds (End p) = refl
-one_answer number holds (WriteOut p) = refl
-one_answer number holds Restart = refl
-one_answer number holds (Acked i k a) = refl
-one_answer number holds (Nacked i k d) = refl
-one_answer number holds (Demand i p m) = refl
+one_answer number holds e = grind arith
 
 -- the parts judged and put together
 module _ (x : Station) (e : Event) (l n : ℕ) where
@@ -74,19 +55,19 @@ module _ (x : Station) (e : Event) (l n : ℕ) where
   together o =
       stepped (joined x.settings x.number x.reading o.parts (set x.holds (profile_for e) o.parts.hold)) o.answer l n
 
-  by_number : (is_restart e ≡ true → x.holds ≡ no_holds) → (i : ℕ)
-      → together (if_free i (parts_of x (profile_for e)) x.reading e) ≡ if_allowed i x e l n
+  by_verdict : (is_restart e ≡ true → x.holds ≡ no_holds) → (v : Verdict)
+      → together (if_free v (parts_of x (profile_for e)) x.reading e) ≡ if_allowed v x e l n
   unfolding if_free parts_after if_allowed after
-  by_number r zero =
+  by_verdict r (Ok u) =
       both (λ (holds : List Hold) (a : Answer). stepped (joined x.settings x.number x.reading (parts_after (parts_of x (profile_for e)) x.reading e) holds) a l n)
       (one_hold x.holds e r) (one_answer (last_after x.last e) x.holds e)
-  by_number r (suc i) =
-      ap (λ (holds : List Hold). stepped (joined x.settings x.number x.reading (parts_of x (profile_for e)) holds) (answer.Refused (suc i)) l n)
+  by_verdict r (Err q) =
+      ap (λ (holds : List Hold). stepped (joined x.settings x.number x.reading (parts_of x (profile_for e)) holds) (answer.Refused q) l n)
       (set-get_or x.holds (profile_for e) no_hold)
 
   by_parts : (is_restart e ≡ true → x.holds ≡ no_holds)
       → together (outcome_of x.settings (lease_of x) (parts_of x (profile_for e)) x.reading e) ≡ judged x e l n
-  by_parts r = by_number r (forbids x e)
+  by_parts r = by_verdict r (forbids x e)
 
 -- a restart leaves no more than the lease's end
 module _ (s : Station) (now : ℕ) (l n : ℕ) where
@@ -118,9 +99,9 @@ module _ (s : Station) (now : ℕ) (e : Event) where
   abbrev found : Bool → List Hold
   found b = (ended_if b s now).holds
 
-  pub arrived_is : (b : Bool) (p : ℕ) → arrived_if b s.standing s.start s.last s.waiting (hold_in (found b) p) ≡ parts_of (ended_if b s now) p
+  pub arrived_is : (b : Bool) (p : ℕ) → arrived_if b (parts_of s p) ≡ parts_of (ended_if b s now) p
   unfolding arrived_if ended_if
-  arrived_is true p = refl
+  arrived_is true p = ap (λ (h : Hold). record { standing = Out; start = 0; last = s.last; waiting = None; hold = h }) (sym (none_held p))
   arrived_is false p = refl
 
   abbrev result : Outcome → List Hold → ℕ → ℕ → Stepped
@@ -155,15 +136,11 @@ module _ (s : Station) (now : ℕ) (e : Event) (over b : Bool) (w : b ≡ (over 
       by_end true q = absurd (true≢false q)
       by_end false q = refl
 
--- what the code finds: r of 1 to 6, k the lease, `over` whether it has run, b whether all is cleared
-module _ (s : Station) (now : ℕ) (e : Event) (r : ℕ) (d : r ≡ refusal s.settings s.number s.reading now e) (h : r ≡ 0)
-    (k : ℕ) (c : k ≡ lease_answer s.settings) (over : Bool) (v : over ≡ (not (is_out s.standing) && passed s.start k now))
-    (b : Bool) (w : b ≡ (over || is_restart e)) where
-  in_lease : k ≡ lease_of s
-  in_lease = c ∙ lease_is s.settings (good_settings s.settings s.number s.reading now e (sym d ∙ h))
-
+-- what the code finds: nothing of 1 to 6, k the lease, `over` whether it has run, b whether all is cleared
+module _ (s : Station) (now : ℕ) (e : Event) (h : refusal_of s now e ≡ Ok tt) (k : ℕ) (c : k ≡ lease_of s)
+    (over : Bool) (v : over ≡ (not (is_out s.standing) && passed s.start k now)) (b : Bool) (w : b ≡ (over || is_restart e)) where
   is_over_lem : over ≡ is_over s now
-  is_over_lem = v ∙ ap (λ (k : ℕ). not (is_out s.standing) && passed s.start k now) in_lease
+  is_over_lem = v ∙ ap (λ (k : ℕ). not (is_out s.standing) && passed s.start k now) c
 
   restart_clears : is_restart e ≡ true → b ≡ true
   restart_clears q = w ∙ ap (λ (t : Bool). over || t) q ∙ or_true over
@@ -173,14 +150,14 @@ module _ (s : Station) (now : ℕ) (e : Event) (r : ℕ) (d : r ≡ refusal s.se
       or_true false = refl
 
   pub taken : (holds : List Hold) (l : ℕ) → Found s now e over b holds l
-      → (p : ℕ) → p ≡ profile_for e → (x : Parts) → x ≡ arrived_if b s.standing s.start s.last s.waiting (hold_in holds p)
+      → (p : ℕ) → p ≡ profile_for e → (y : Parts) → y ≡ parts_of s p → (x : Parts) → x ≡ arrived_if b y
       → (o : Outcome) → o ≡ outcome_of s.settings k x now e
       → (t : Station) → t ≡ joined s.settings s.number now o.parts (set holds p o.parts.hold)
       → (n : ℕ) → n ≡ ones l → stepped t o.answer l n ≡ step s now e
   unfolding step if_good
-  taken holds l f p i x j o m t q n u =
-      let x' : x ≡ parts_of (ended_if b s now) (profile_for e) = j ∙ ap (arrived_if b s.standing s.start s.last s.waiting) (both hold_in f.0 i) ∙ arrived_is s now e b (profile_for e) in
-      let o' : o ≡ outcome_of s.settings (lease_of s) (parts_of (ended_if b s now) (profile_for e)) now e = m ∙ both (λ (k : ℕ) (x : Parts). outcome_of s.settings k x now e) in_lease x' in
+  taken holds l f p i y g x j o m t q n u =
+      let x' : x ≡ parts_of (ended_if b s now) (profile_for e) = j ∙ ap (arrived_if b) g ∙ arrived_is s now e b p ∙ ap (parts_of (ended_if b s now)) i in
+      let o' : o ≡ outcome_of s.settings (lease_of s) (parts_of (ended_if b s now) (profile_for e)) now e = m ∙ both (λ (k : ℕ) (x : Parts). outcome_of s.settings k x now e) c x' in
       let l' : l ≡ mask (lost s now e) = f.1 ∙ ap (λ (t : Bool). mask (lost_if (t && not (is_restart e)) s.holds)) is_over_lem in
       ap (λ (t : Station). stepped t o.answer l n) q
       ∙ both (λ (holds : List Hold) (p : ℕ). result s now e o (set holds p o.parts.hold) l n) f.0 i
@@ -191,4 +168,4 @@ module _ (s : Station) (now : ℕ) (e : Event) (r : ℕ) (d : r ≡ refusal s.se
       ∙ ap (judged (expire s now) e l) u
       ∙ ap (λ (l : ℕ). judged (expire s now) e l (ones l)) l'
       ∙ ap (judged (expire s now) e (mask (lost s now e))) (mask_ones (lost s now e))
-      ∙ ap (λ (i : ℕ). if_good i s now e) (sym h ∙ d)
+      ∙ ap (λ (v : Verdict). if_good v s now e) (sym h)

@@ -4,13 +4,14 @@ use mathlib.Core.Path.{◌≡◌, refl, ap, ◌∙◌}
 use mathlib.Core.Bool.{Bool, true, false, cond, true≢false}
 use mathlib.Core.List.{List, [], ◌∷◌}
 use Prim.Native.Nat.{ℕ, zero, suc, ◌<◌}
+use Rattle.std.proofs.Common.{arith}
 use lib.Dec.{eqb}
 use lib.ListN.{length, get_or, replicate, length-set}
 use lib.Seq.{get_or-set_same, get_or-set_other}
 use borrow.Author.Tests.{eqb-true, eqb-false}
 use Rattle.modes.specs.declared.Mode.{Mode}
 use Rattle.timing.specs.Limits.{most_profiles}
-use Rattle.station.specs.Event.{Hello, KeepAlive, Ask, Release, Keep, Done, Granted, Wait, InUse, Event, Send, Begin, Edit, End, WriteOut, Restart, Acked, Nacked, Demand, Hold, Standing, Out, Open, Closing}
+use Rattle.station.specs.Event.{Hello, KeepAlive, Ask, Release, Keep, Done, Granted, Wait, InUse, Event, Send, Begin, Edit, End, WriteOut, Restart, Acked, Nacked, Demand, Hold, Standing}
 use Rattle.holds.specs.Hold.{no_hold, no_holds, hold_in, with_mode, with_unwritten, changed}
 use Rattle.holds.specs.Stage.{is_out}
 use Rattle.room.specs.Rules.{profile_for}
@@ -114,8 +115,7 @@ changed_at_lem f holds p q h = by_test (eqb q p) refl
     by_test false e = get_or-set_other holds p q (f (hold_in holds p)) no_hold (eqb-false q p e)
 
 either_way : (t : Bool) (h : Hold) → h ≡ cond t h h
-either_way true h = refl
-either_way false h = refl
+either_way t h = grind arith
 
 -- but for restart, only the hold of the profile named changes
 pub hold_after : (x : Station) (e : Event) (q : ℕ) → is_restart e ≡ false → profile_for e < length x.holds
@@ -162,8 +162,7 @@ mode_after x (Nacked i k d) q = mode_of x q
 mode_after x (Demand i p m) q = mode_of x q
 
 mode_is : (t : Bool) (g h : Hold) → (cond t g h).mode.0 ≡ cond t g.mode.0 h.mode.0
-mode_is true g h = refl
-mode_is false g h = refl
+mode_is t g h = grind arith
 
 -- a change that leaves the mode leaves every mode, also past the end
 pub modes_kept : (f : Hold → Hold) → ((h : Hold) → (f h).mode ≡ h.mode) → (holds : List Hold) (p q : ℕ)
@@ -201,9 +200,7 @@ mode_after_lem x (Demand i p m) q h = refl
 
 -- a NACK puts nobody out, and lets nobody in
 pub nacked_out : (σ : Standing) → is_out (nacked σ) ≡ is_out σ
-nacked_out Out = refl
-nacked_out Open = refl
-nacked_out Closing = refl
+nacked_out σ = grind arith
 
 -- there are as many holds as before
 pub after_length : (x : Station) (e : Event) → length x.holds ≡ most_profiles → length (after x e).holds ≡ most_profiles

@@ -20,7 +20,7 @@ abbrev pub numbered : Answer → List ℕ → List ℕ
 numbered answer.Done ns = ns
 numbered (answer.Sent n q) ns = n ∷ ns
 numbered (answer.Advice v) ns = ns
-numbered (answer.Refused n) ns = ns
+numbered (answer.Refused r) ns = ns
 
 pub data Run : Station → List ℕ → Type 0 where
   made : (z : Settings) (own : ℕ) → Run (new_station z own) []
@@ -52,9 +52,9 @@ falls_step s now e ns f = by_way (way s now e)
     Kept r = Falls (suc r.station.last) (numbered r.answer ns)
 
     by_way : Way s now e → Falls (suc (step s now e).station.last) (numbered (step s now e).answer ns)
-    by_way (is_unheard n h) = subst Kept (sym (unheard s now e n h)) f
-    by_way (is_forbidden n h g) =
-        subst Kept (sym (forbidden s now e n h g)) (subst (λ (l : ℕ). Falls (suc l) ns) (sym (expire_last s now)) f)
+    by_way (is_unheard r h) = subst Kept (sym (unheard s now e r h)) f
+    by_way (is_forbidden r h g) =
+        subst Kept (sym (forbidden s now e r h g)) (subst (λ (l : ℕ). Falls (suc l) ns) (sym (expire_last s now)) f)
     by_way (is_done_lem h g) =
         let x = expire s now in
         subst Kept (sym (happens s now e h g))

@@ -1,15 +1,16 @@
--- What an event leaves as it is, and how it is answered, where the code's `_` stands for it: k is its place among the kinds.
+-- What an event leaves as it is, and how it is answered, where a `_` stands for it: k is its place among the kinds.
 -- Assumes nothing.
 use mathlib.Core.Path.{◌≡◌, refl}
 use mathlib.Core.Bool.{false}
 use mathlib.Core.List.{List, [], ◌∷◌}
 use Prim.Native.Nat.{ℕ}
+use Rattle.std.proofs.Common.{Option}
 use types.Run.{OneOf, miss}
 use denote.Enum.Declared.{tag_of}
 use Rattle.requests.specs.contracts.Request as request
 use Rattle.room.specs.contracts.event.Ack as ack
 use Rattle.room.specs.contracts.event.Event as event
-use Rattle.station.specs.Event.{Request, Hello, KeepAlive, Ask, Release, Keep, Waiting, Ack, Done, Granted, Wait, InUse, Event, Send, Begin, Edit, End, WriteOut, Restart, Acked, Nacked, Demand, Hold, Standing}
+use Rattle.station.specs.Event.{Request, Hello, KeepAlive, Ask, Release, Keep, Sent, Ack, Done, Granted, Wait, InUse, Event, Send, Begin, Edit, End, WriteOut, Restart, Acked, Nacked, Demand, Hold, Standing}
 use Rattle.station.specs.Effect.{standing_after, start_after, last_after, waiting_after}
 use Rattle.station.specs.Parts.{sent_change, acked_change, answer_on}
 use Rattle.station.specs.Station.{is_restart}
@@ -62,7 +63,7 @@ last_stays last (Acked i n a) k = refl
 last_stays last (Nacked i n d) k = refl
 last_stays last (Demand i p m) k = refl
 
-pub waiting_stays : (w : Waiting) (now : ℕ) (e : Event) → At (1 ∷ 2 ∷ 3 ∷ 4 ∷ 8 ∷ []) e → w ≡ waiting_after w now e
+pub waiting_stays : (w : Option Sent) (now : ℕ) (e : Event) → At (1 ∷ 2 ∷ 3 ∷ 4 ∷ 8 ∷ []) e → w ≡ waiting_after w now e
 waiting_stays w now (Send q) k = absurd (miss (1 ∷ 2 ∷ 3 ∷ 4 ∷ 8 ∷ []) 0 tt k)
 waiting_stays w now (Begin p m) k = refl
 waiting_stays w now (Edit p) k = refl

@@ -5,6 +5,7 @@ use mathlib.Core.Bool.{true, false, true≢false}
 use mathlib.Core.Logic.{◌⊎◌, inl, inr}
 use Prim.Native.Nat.{ℕ, ◌<◌}
 use native.Mathlib.Omega.{arith}
+use Rattle.std.proofs.Common.{Ok}
 use lib.ListN.{length}
 use Rattle.masks.specs.Mask.{mask, count}
 use Rattle.timing.specs.Limits.{most_profiles}
@@ -20,7 +21,7 @@ use Rattle.station.proofs.Sound.{Sound}
 -- an event answered without a refusal, at a station whose lease has ended first if it had run
 pub record Happened (s : Station) (now : ℕ) (e : Event) : Type 0 where
   pub heard : Heard s now e
-  pub allowed : forbids (expire s now) e ≡ 0
+  pub allowed : forbids (expire s now) e ≡ Ok tt
   pub settings : (step s now e).station.settings ≡ s.settings
   pub number : (step s now e).station.number ≡ s.number
   pub standing : (step s now e).station.standing ≡ standing_after (expire s now).standing e
@@ -67,6 +68,6 @@ pub unhappened : (s : Station) (now : ℕ) (e : Event) → is_good (step s now e
 unhappened s now e b = by_way (way s now e)
   where
     by_way : Way s now e → ((step s now e).station ≡ s) ⊎ (Heard s now e × ((step s now e).station ≡ expire s now))
-    by_way (is_unheard n h) = inl (ap (λ (r : Stepped). r.station) (unheard s now e n h))
-    by_way (is_forbidden n h f) = inr (heard s now e h, ap (λ (r : Stepped). r.station) (forbidden s now e n h f))
+    by_way (is_unheard r h) = inl (ap (λ (r : Stepped). r.station) (unheard s now e r h))
+    by_way (is_forbidden r h f) = inr (heard s now e h, ap (λ (r : Stepped). r.station) (forbidden s now e r h f))
     by_way (is_done_lem h f) = absurd (true≢false (sym (done_good s now e h f) ∙ b))

@@ -22,35 +22,23 @@ use Rattle.station.proofs.Frames.{mode_after, mode_after_lem}
 -- its message names the station and its number
 message_station : (own number : ℕ) (q : Request) → (message_of own number q).station ≡ own
 unfolding message_of
-message_station own number Hello = refl
-message_station own number KeepAlive = refl
-message_station own number (Ask p m) = refl
-message_station own number (Release p) = refl
-message_station own number (Keep p) = refl
+message_station own number q = grind arith
 
 pub message_number : (own number : ℕ) (q : Request) → (message_of own number q).number ≡ number
 unfolding message_of
-message_number own number Hello = refl
-message_number own number KeepAlive = refl
-message_number own number (Ask p m) = refl
-message_number own number (Release p) = refl
-message_number own number (Keep p) = refl
+message_number own number q = grind arith
 
 pub sent_station : (own : ℕ) (a : Answer) (m : Message) → Memᴰ m (sent_by own a) → m.station ≡ own
 unfolding sent_by
 sent_station own answer.Done m h = absurd (Memᴰ.not-nil h)
 sent_station own (answer.Sent number q) m h = ap (λ (x : Message). x.station) (Memᴰ.eq_of_singleton h) ∙ message_station own number q
 sent_station own (answer.Advice a) m h = absurd (Memᴰ.not-nil h)
-sent_station own (answer.Refused n) m h = absurd (Memᴰ.not-nil h)
+sent_station own (answer.Refused r) m h = absurd (Memᴰ.not-nil h)
 
 -- kind 1 is a hello
 pub is_hello_lem : (own number : ℕ) (q : Request) → (message_of own number q).kind ≡ 1 → q ≡ Hello
 unfolding message_of
-is_hello_lem own number Hello e = refl
-is_hello_lem own number KeepAlive e = absurd (omega arith)
-is_hello_lem own number (Ask p m) e = absurd (omega arith)
-is_hello_lem own number (Release p) e = absurd (omega arith)
-is_hello_lem own number (Keep p) e = absurd (omega arith)
+is_hello_lem own number q e = grind arith
 
 module _ (x : Station) where
   -- sending leaves each mode, or takes it

@@ -1,18 +1,19 @@
 -- What holds of every station that can be reached, from a new one by any events at any readings.
 -- Assumes nothing.
 use mathlib.Core.Path.{◌≡◌, refl, sym, ap, subst, ◌∙◌}
-use mathlib.Core.Bool.{Bool, true, false, cond, ◌&&◌, not, false≢true}
+use mathlib.Core.Bool.{Bool, true, false, cond, not, false≢true}
 use mathlib.Core.Logic.{◌⊎◌, inl, inr}
 use Prim.Native.Nat.{ℕ, ◌<◌, ◌≤◌}
 use native.Mathlib.Omega.{arith}
-use lib.Dec.{eqb, leb}
+use Rattle.std.proofs.Common.{Option, Some, None, Ok}
+use lib.Dec.{eqb}
 use lib.ListN.{length}
-use borrow.Author.Tests.{eqb-true, ltb-true, ltb-false, leb-true}
+use borrow.Author.Tests.{eqb-true, ltb-true, ltb-false}
 use Rattle.modes.specs.Modes.{is_mode, writes}
 use Rattle.modes.proofs.Laws.{mode_covered, writes_covered}
 use Rattle.timing.specs.Limits.{reading_limit, most_profiles}
 use Rattle.timing.specs.declared.settings.Settings.{Settings}
-use Rattle.station.specs.Event.{Request, Hello, KeepAlive, Ask, Release, Keep, Waiting, Nothing, Sent, Done, Granted, Wait, InUse, Event, Send, Begin, Edit, End, WriteOut, Restart, Acked, Nacked, Demand, Hold, Standing, Out, Open, Closing}
+use Rattle.station.specs.Event.{Request, Hello, KeepAlive, Ask, Release, Keep, Sent, Done, Granted, Wait, InUse, Event, Send, Begin, Edit, End, WriteOut, Restart, Acked, Nacked, Demand, Hold, Standing, Out, Open, Closing}
 use Rattle.requests.proofs.Back.{in_modes}
 use Rattle.holds.specs.Hold.{no_hold}
 use Rattle.holds.specs.Stage.{is_out}
@@ -38,14 +39,10 @@ good_empty = record { unwritten = λ e. absurd (false≢true e); started = λ l.
 
 mode_small : (n : ℕ) → is_mode n ≡ true → n ≤ 6
 unfolding is_mode
-mode_small n e = by_test (leb 1 n) e
-  where
-    by_test : (t : Bool) → (t && leb n 6) ≡ true → n ≤ 6
-    by_test true e = leb-true n 6 e
-    by_test false e = absurd (false≢true e)
+mode_small n e = grind arith
 
 -- the hold that an event changes stays good
-good_changed : (x : Station) (e : Event) (n : ℕ) → named_refusal n e ≡ 0 → forbids x e ≡ 0
+good_changed : (x : Station) (e : Event) (n : ℕ) → named_refusal n e ≡ Ok tt → forbids x e ≡ Ok tt
     → GoodHold (hold_at x (profile_for e)) → GoodHold (hold_change e (hold_at x (profile_for e)))
 good_changed x (Send Hello) n a f g = g
 good_changed x (Send KeepAlive) n a f g = g
@@ -87,17 +84,9 @@ good_changed x (Nacked i k d) n a f g = g
 good_changed x (Demand i p m) n a f g = g
 
 restarts : (e : Event) → (e ≡ Restart) ⊎ (is_restart e ≡ false)
-restarts (Send q) = inr refl
-restarts (Begin p m) = inr refl
-restarts (Edit p) = inr refl
-restarts (End p) = inr refl
-restarts (WriteOut p) = inr refl
-restarts Restart = inl refl
-restarts (Acked i k a) = inr refl
-restarts (Nacked i k d) = inr refl
-restarts (Demand i p m) = inr refl
+restarts e = grind arith
 
-good_after : (x : Station) (e : Event) (n : ℕ) → named_refusal n e ≡ 0 → forbids x e ≡ 0 → profile_for e < length x.holds
+good_after : (x : Station) (e : Event) (n : ℕ) → named_refusal n e ≡ Ok tt → forbids x e ≡ Ok tt → profile_for e < length x.holds
     → ((p : ℕ) → GoodHold (hold_at x p)) → (q : ℕ) → GoodHold (hold_at (after x e) q)
 good_after x e n a f l g q = by_kind (restarts e)
   where
@@ -113,20 +102,20 @@ good_after x e n a f l g q = by_kind (restarts e)
     by_kind (inr r) = subst GoodHold (sym (hold_after x e q r l)) (at (eqb q (profile_for e)) refl)
 
 -- which message can wait where
-abbrev pub may_wait : Standing → Waiting → Bool
-may_wait Out Nothing = true
-may_wait Out (Sent q t) = is_hello q
-may_wait Open Nothing = true
-may_wait Open (Sent q t) = not (is_hello q)
-may_wait Closing Nothing = true
-may_wait Closing (Sent q t) = false
+abbrev pub may_wait : Standing → Option Sent → Bool
+may_wait Out None = true
+may_wait Out (Some w) = is_hello w.request
+may_wait Open None = true
+may_wait Open (Some w) = not (is_hello w.request)
+may_wait Closing None = true
+may_wait Closing (Some w) = false
 
-abbrev pub waiting_ones : Waiting → ℕ
-waiting_ones Nothing = 0
-waiting_ones (Sent q t) = 1
+abbrev pub waiting_ones : Option Sent → ℕ
+waiting_ones None = 0
+waiting_ones (Some w) = 1
 
 -- standing, lease start, waiting message, reading and last number together
-pub record Posed (σ : Standing) (start : ℕ) (w : Waiting) (reading last : ℕ) : Type 0 where
+pub record Posed (σ : Standing) (start : ℕ) (w : Option Sent) (reading last : ℕ) : Type 0 where
   pub unstarted : is_out σ ≡ true → start ≡ 0
   pub fits : may_wait σ w ≡ true
   pub sent : sent_at w ≤ reading
@@ -137,25 +126,19 @@ pub record Posed (σ : Standing) (start : ℕ) (w : Waiting) (reading last : ℕ
 abbrev pub PosedAt : Station → Type 0
 PosedAt s = Posed s.standing s.start s.waiting s.reading s.last
 
-sends : (q : Request) (t : ℕ) → may_wait (cond (is_hello q) Out Open) (Sent q t) ≡ true
-sends Hello t = refl
-sends KeepAlive t = refl
-sends (Ask p m) t = refl
-sends (Release p) t = refl
-sends (Keep p) t = refl
+sends : (q : Request) (t : ℕ) → may_wait (cond (is_hello q) Out Open) (Some (record { request = q; at = t })) ≡ true
+sends q t = grind arith
 
-nothing_waits : (σ : Standing) → may_wait σ Nothing ≡ true
-nothing_waits Out = refl
-nothing_waits Open = refl
-nothing_waits Closing = refl
+nothing_waits : (σ : Standing) → may_wait σ None ≡ true
+nothing_waits σ = grind arith
 
-posed_after : (x : Station) (e : Event) → forbids x e ≡ 0 → PosedAt x → PosedAt (after x e)
+posed_after : (x : Station) (e : Event) → forbids x e ≡ Ok tt → PosedAt x → PosedAt (after x e)
 unfolding after
 posed_after x (Send q) f g =
     let n = ltb-true x.last last_number (send_free _ _ _ q f) in
     record {
       unstarted = g.unstarted;
-      fits = ap (λ (σ : Standing). may_wait σ (Sent q x.reading)) (sent_by_lem x q f) ∙ sends q x.reading;
+      fits = ap (λ (σ : Standing). may_wait σ (Some (record { request = q; at = x.reading }))) (sent_by_lem x q f) ∙ sends q x.reading;
       sent = omega arith;
       begun = g.begun;
       numbered = omega arith;
@@ -194,7 +177,7 @@ Empty s = is_out s.standing ≡ true → (p : ℕ) → hold_at s p ≡ no_hold
 in_out : {A : Type 0} (b : Bool) → b ≡ false → b ≡ true → A
 in_out b e g = absurd (false≢true (sym e ∙ g))
 
-empty_after : (x : Station) (e : Event) → forbids x e ≡ 0 → Empty x → Empty (after x e)
+empty_after : (x : Station) (e : Event) → forbids x e ≡ Ok tt → Empty x → Empty (after x e)
 unfolding after
 empty_after x (Send Hello) f g = g
 empty_after x (Send KeepAlive) f g = g
@@ -253,7 +236,7 @@ expire_sound s now f l g = by_test (is_over s now) refl
     by_test true e = subst Sound (sym (ends s now e)) (gone_sound s now l g.posed.counted)
     by_test false e = subst Sound (sym (lasts s now e)) (at_sound s now f l g)
 
-pub after_sound : (x : Station) (e : Event) (n : ℕ) → named_refusal n e ≡ 0 → forbids x e ≡ 0 → profile_for e < most_profiles → Sound x → Sound (after x e)
+pub after_sound : (x : Station) (e : Event) (n : ℕ) → named_refusal n e ≡ Ok tt → forbids x e ≡ Ok tt → profile_for e < most_profiles → Sound x → Sound (after x e)
 unfolding after
 after_sound x e n a f l g =
     let z = g.sized in
@@ -268,10 +251,10 @@ after_sound x e n a f l g =
 pub step_sound : (s : Station) (now : ℕ) (e : Event) → Sound s → Sound (step s now e).station
 step_sound s now e g = stepwise Sound s now e g early done
   where
-    early : refusal_of s now e ≡ 0 → Sound (expire s now)
+    early : refusal_of s now e ≡ Ok tt → Sound (expire s now)
     early h = let k = heard s now e h in expire_sound s now k.forward k.limit g
 
-    done : refusal_of s now e ≡ 0 → forbids (expire s now) e ≡ 0 → Sound (after (expire s now) e)
+    done : refusal_of s now e ≡ Ok tt → forbids (expire s now) e ≡ Ok tt → Sound (after (expire s now) e)
     done h f =
         let k = heard s now e h in
         after_sound (expire s now) e s.settings.profiles k.named f (heard_profile s now e k).1 (early h)
@@ -298,12 +281,12 @@ module _ {s : Station} (r : Reachable s) where
       (ap (λ (h : Hold). h.mode.0) h, ap (λ (h : Hold). h.started) h, ap (λ (h : Hold). h.unwritten) h)
 
   -- a waiting message was sent at a reading not above the last
-  pub sent_before : (q : Request) (t : ℕ) → s.waiting ≡ Sent q t → t ≤ s.reading
-  sent_before q t w = subst (λ (w : Waiting). sent_at w ≤ s.reading) w (sound r).posed.sent
+  pub sent_before : (q : Request) (t : ℕ) → s.waiting ≡ Some (record { request = q; at = t }) → t ≤ s.reading
+  sent_before q t w = subst (λ (w : Option Sent). sent_at w ≤ s.reading) w (sound r).posed.sent
 
   -- its number is the last number, and there is one
-  pub sent_numbered : (q : Request) (t : ℕ) → s.waiting ≡ Sent q t → 1 ≤ s.last
-  sent_numbered q t w = subst (λ (w : Waiting). waiting_ones w ≤ s.last) w (sound r).posed.numbered
+  pub sent_numbered : (q : Request) (t : ℕ) → s.waiting ≡ Some (record { request = q; at = t }) → 1 ≤ s.last
+  sent_numbered q t w = subst (λ (w : Option Sent). waiting_ones w ≤ s.last) w (sound r).posed.numbered
 
   -- lease start is not above the last reading
   pub started_before : s.start ≤ s.reading
@@ -318,18 +301,18 @@ module _ {s : Station} (r : Reachable s) where
   started_held p = ((sound r).holds p).started
 
   -- closing has nothing waiting
-  pub closing_waits : s.standing ≡ Closing → s.waiting ≡ Nothing
+  pub closing_waits : s.standing ≡ Closing → s.waiting ≡ None
   closing_waits c = by_waiting s.waiting (ap (λ (σ : Standing). may_wait σ s.waiting) (sym c) ∙ (sound r).posed.fits)
     where
-      by_waiting : (w : Waiting) → may_wait Closing w ≡ true → w ≡ Nothing
-      by_waiting Nothing e = refl
-      by_waiting (Sent q t) e = absurd (false≢true e)
+      by_waiting : (w : Option Sent) → may_wait Closing w ≡ true → w ≡ None
+      by_waiting None e = refl
+      by_waiting (Some w) e = absurd (false≢true e)
 
   -- a hello waits only out, and nothing else waits there
-  pub hello_out : (q : Request) (t : ℕ) → s.waiting ≡ Sent q t → s.standing ≡ cond (is_hello q) Out Open
+  pub hello_out : (q : Request) (t : ℕ) → s.waiting ≡ Some (record { request = q; at = t }) → s.standing ≡ cond (is_hello q) Out Open
   hello_out q t w = by_standing s.standing q (ap (may_wait s.standing) (sym w) ∙ (sound r).posed.fits)
     where
-      by_standing : (σ : Standing) (q : Request) → may_wait σ (Sent q t) ≡ true → σ ≡ cond (is_hello q) Out Open
+      by_standing : (σ : Standing) (q : Request) → may_wait σ (Some (record { request = q; at = t })) ≡ true → σ ≡ cond (is_hello q) Out Open
       by_standing Out Hello e = refl
       by_standing Out KeepAlive e = absurd (false≢true e)
       by_standing Out (Ask p m) e = absurd (false≢true e)

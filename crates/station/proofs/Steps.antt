@@ -3,9 +3,12 @@
 use mathlib.Core.Path.{◌≡◌, refl, sym, ap, subst, ◌∙◌}
 use mathlib.Core.Bool.{Bool, true, false≢true}
 use mathlib.Core.List.{List}
-use Prim.Native.Nat.{ℕ, zero, suc}
+use Prim.Native.Nat.{ℕ}
+use Rattle.std.proofs.Common.{Ok, Err, arith}
+use Rattle.refusals.specs.Refusal.{Verdict}
+use Rattle.refusals.specs.declared.Refusal.{Refusal}
 use Rattle.masks.specs.Mask.{mask, count}
-use Rattle.station.specs.Event.{Hello, KeepAlive, Ask, Release, Keep, Event, Send, Begin, Edit, End, WriteOut, Restart, Acked, Nacked, Demand, Hold}
+use Rattle.station.specs.Event.{Event, Hold}
 use Rattle.station.specs.Effect.{last_after, Answer, answer_to}
 use Rattle.station.specs.Station.{Station, Stepped, expire, lost, refusal_of, forbids, after, stepped, if_allowed, if_good, step}
 use Rattle.station.specs.Said.{said}
@@ -16,83 +19,71 @@ is_good a = (said a).good
 
 module _ (s : Station) (now : ℕ) (e : Event) where
   -- "Refusals 1 to 6 change nothing."
-  pub unheard : (n : ℕ) → refusal_of s now e ≡ suc n → step s now e ≡ stepped s (answer.Refused (suc n)) 0 0
+  pub unheard : (r : Refusal) → refusal_of s now e ≡ Err r → step s now e ≡ stepped s (answer.Refused r) 0 0
   unfolding step if_good
-  unheard n h = ap (λ (i : ℕ). if_good i s now e) h
+  unheard r h = ap (λ (v : Verdict). if_good v s now e) h
 
   -- "8 to 14 change the reading and may end the lease, nothing else."
-  pub forbidden : (n : ℕ) → refusal_of s now e ≡ 0 → forbids (expire s now) e ≡ suc n
-      → step s now e ≡ stepped (expire s now) (answer.Refused (suc n)) (mask (lost s now e)) (count (lost s now e))
+  pub forbidden : (r : Refusal) → refusal_of s now e ≡ Ok tt → forbids (expire s now) e ≡ Err r
+      → step s now e ≡ stepped (expire s now) (answer.Refused r) (mask (lost s now e)) (count (lost s now e))
   unfolding step if_good if_allowed
-  forbidden n h f =
-      ap (λ (i : ℕ). if_good i s now e) h
-      ∙ ap (λ (i : ℕ). if_allowed i (expire s now) e (mask (lost s now e)) (count (lost s now e))) f
+  forbidden r h f =
+      ap (λ (v : Verdict). if_good v s now e) h
+      ∙ ap (λ (v : Verdict). if_allowed v (expire s now) e (mask (lost s now e)) (count (lost s now e))) f
 
   -- what nothing refuses happens
-  pub happens : refusal_of s now e ≡ 0 → forbids (expire s now) e ≡ 0
+  pub happens : refusal_of s now e ≡ Ok tt → forbids (expire s now) e ≡ Ok tt
       → step s now e
       ≡ stepped (after (expire s now) e) (answer_to (last_after (expire s now).last e) (expire s now).holds e)
       (mask (lost s now e)) (count (lost s now e))
   unfolding step if_good if_allowed
   happens h f =
-      ap (λ (i : ℕ). if_good i s now e) h
-      ∙ ap (λ (i : ℕ). if_allowed i (expire s now) e (mask (lost s now e)) (count (lost s now e))) f
+      ap (λ (v : Verdict). if_good v s now e) h
+      ∙ ap (λ (v : Verdict). if_allowed v (expire s now) e (mask (lost s now e)) (count (lost s now e))) f
 
 -- which way it is
 pub data Way (s : Station) (now : ℕ) (e : Event) : Type 0 where
-  is_unheard : (n : ℕ) → refusal_of s now e ≡ suc n → Way s now e
-  is_forbidden : (n : ℕ) → refusal_of s now e ≡ 0 → forbids (expire s now) e ≡ suc n → Way s now e
-  is_done_lem : refusal_of s now e ≡ 0 → forbids (expire s now) e ≡ 0 → Way s now e
+  is_unheard : (r : Refusal) → refusal_of s now e ≡ Err r → Way s now e
+  is_forbidden : (r : Refusal) → refusal_of s now e ≡ Ok tt → forbids (expire s now) e ≡ Err r → Way s now e
+  is_done_lem : refusal_of s now e ≡ Ok tt → forbids (expire s now) e ≡ Ok tt → Way s now e
 
 pub way : (s : Station) (now : ℕ) (e : Event) → Way s now e
 way s now e = by_refusal (refusal_of s now e) refl
   where
-    by_rule : (n : ℕ) → refusal_of s now e ≡ 0 → forbids (expire s now) e ≡ n → Way s now e
-    by_rule zero h f = is_done_lem h f
-    by_rule (suc n) h f = is_forbidden n h f
+    by_rule : (v : Verdict) → refusal_of s now e ≡ Ok tt → forbids (expire s now) e ≡ v → Way s now e
+    by_rule (Ok u) h f = is_done_lem h f
+    by_rule (Err r) h f = is_forbidden r h f
 
-    by_refusal : (n : ℕ) → refusal_of s now e ≡ n → Way s now e
-    by_refusal zero h = by_rule (forbids (expire s now) e) h refl
-    by_refusal (suc n) h = is_unheard n h
+    by_refusal : (v : Verdict) → refusal_of s now e ≡ v → Way s now e
+    by_refusal (Ok u) h = by_rule (forbids (expire s now) e) h refl
+    by_refusal (Err r) h = is_unheard r h
 
 -- what holds of a station, of the same after its lease's end and after an event that happens, holds after every event
-pub stepwise : (P : Station → Type 0) (s : Station) (now : ℕ) (e : Event) → P s → (refusal_of s now e ≡ 0 → P (expire s now))
-    → (refusal_of s now e ≡ 0 → forbids (expire s now) e ≡ 0 → P (after (expire s now) e)) → P (step s now e).station
+pub stepwise : (P : Station → Type 0) (s : Station) (now : ℕ) (e : Event) → P s → (refusal_of s now e ≡ Ok tt → P (expire s now))
+    → (refusal_of s now e ≡ Ok tt → forbids (expire s now) e ≡ Ok tt → P (after (expire s now) e)) → P (step s now e).station
 stepwise P s now e a b c = by_way (way s now e)
   where
     by_way : Way s now e → P (step s now e).station
-    by_way (is_unheard n h) = subst P (ap (λ (r : Stepped). r.station) (sym (unheard s now e n h))) a
-    by_way (is_forbidden n h f) = subst P (ap (λ (r : Stepped). r.station) (sym (forbidden s now e n h f))) (b h)
+    by_way (is_unheard r h) = subst P (ap (λ (r : Stepped). r.station) (sym (unheard s now e r h))) a
+    by_way (is_forbidden r h f) = subst P (ap (λ (r : Stepped). r.station) (sym (forbidden s now e r h f))) (b h)
     by_way (is_done_lem h f) = subst P (ap (λ (r : Stepped). r.station) (sym (happens s now e h f))) (c h f)
 
 -- only what happens is answered without a refusal
 pub good_done : (s : Station) (now : ℕ) (e : Event) → is_good (step s now e).answer ≡ true
-    → (refusal_of s now e ≡ 0) × (forbids (expire s now) e ≡ 0)
+    → (refusal_of s now e ≡ Ok tt) × (forbids (expire s now) e ≡ Ok tt)
 good_done s now e g = by_way (way s now e)
   where
-    by_way : Way s now e → (refusal_of s now e ≡ 0) × (forbids (expire s now) e ≡ 0)
-    by_way (is_unheard n h) =
-        absurd (false≢true (sym (ap (λ (r : Stepped). is_good r.answer) (unheard s now e n h)) ∙ g))
-    by_way (is_forbidden n h f) =
-        absurd (false≢true (sym (ap (λ (r : Stepped). is_good r.answer) (forbidden s now e n h f)) ∙ g))
+    by_way : Way s now e → (refusal_of s now e ≡ Ok tt) × (forbids (expire s now) e ≡ Ok tt)
+    by_way (is_unheard r h) =
+        absurd (false≢true (sym (ap (λ (r : Stepped). is_good r.answer) (unheard s now e r h)) ∙ g))
+    by_way (is_forbidden r h f) =
+        absurd (false≢true (sym (ap (λ (r : Stepped). is_good r.answer) (forbidden s now e r h f)) ∙ g))
     by_way (is_done_lem h f) = (h, f)
 
 -- and all of it is
-pub done_good : (s : Station) (now : ℕ) (e : Event) → refusal_of s now e ≡ 0 → forbids (expire s now) e ≡ 0
+pub done_good : (s : Station) (now : ℕ) (e : Event) → refusal_of s now e ≡ Ok tt → forbids (expire s now) e ≡ Ok tt
     → is_good (step s now e).answer ≡ true
 done_good s now e h f = ap (λ (r : Stepped). is_good r.answer) (happens s now e h f) ∙ by_event _ _ e
   where
     by_event : (n : ℕ) (holds : List Hold) (e : Event) → is_good (answer_to n holds e) ≡ true
-    by_event n holds (Send Hello) = refl
-    by_event n holds (Send KeepAlive) = refl
-    by_event n holds (Send (Ask p m)) = refl
-    by_event n holds (Send (Release p)) = refl
-    by_event n holds (Send (Keep p)) = refl
-    by_event n holds (Begin p m) = refl
-    by_event n holds (Edit p) = refl
-    by_event n holds (End p) = refl
-    by_event n holds (WriteOut p) = refl
-    by_event n holds Restart = refl
-    by_event n holds (Acked i k a) = refl
-    by_event n holds (Nacked i k d) = refl
-    by_event n holds (Demand i p m) = refl
+    by_event n holds e = grind arith

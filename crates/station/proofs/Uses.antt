@@ -5,6 +5,7 @@ use mathlib.Core.Path.{◌≡◌, refl, sym, ap, ◌∙◌}
 use mathlib.Core.Bool.{Bool, true, false, ◌&&◌, not, true≢false}
 use Prim.Native.Nat.{ℕ, ◌+◌, ◌<◌, ◌≤◌}
 use native.Mathlib.Nat.{le_refl}
+use Rattle.std.proofs.Common.{Ok}
 use borrow.Author.Tests.{lt-leb, le-ltb, lt-ltb, leb-false}
 use Rattle.modes.specs.Modes.{is_mode, covers, writes}
 use Rattle.modes.specs.declared.Mode.{Mode}
@@ -20,7 +21,6 @@ use Rattle.room.specs.Refusal.{use_refusal}
 use Rattle.station.specs.Event.{Event, Begin, Edit, WriteOut}
 use Rattle.station.specs.Effect.{begun}
 use Rattle.station.specs.Station.{Station, Stepped, mode_of, lease_of, at_reading, is_over, expire, refusal_of, forbids, after, step, may_use}
-use Rattle.station.specs.declared.event.UseAnswer.TheVariants as use'
 use Rattle.station.proofs.Steps.{is_good, happens, good_done}
 use Rattle.room.specs.Rules.{profile_for}
 use Rattle.station.proofs.Frames.{ends, lasts, modes_kept}
@@ -49,24 +49,24 @@ leased s now o = by_test (is_over s now) refl
 
 -- where 1 to 6 do not refuse the question
 pub use_free : (z : Settings) → in_range z ≡ true → (own last now p : ℕ) → own < z.stations → p < z.profiles
-    → now ≤ reading_limit → last ≤ now → use_refusal z own last now p ≡ 0
+    → now ≤ reading_limit → last ≤ now → use_refusal z own last now p ≡ Ok tt
 unfolding use_refusal
 use_free z range own last now p here named limit forward =
     rw (range, lt-leb z.stations own here, lt-leb z.profiles p named, le-ltb reading_limit now limit, le-ltb now last forward)
 
-pub may_use_lem : (s : Station) (now p : ℕ) → use_refusal s.settings s.number s.reading now p ≡ 0
-    → is_mode (mode_of s p) ≡ true → now < s.start + lease_of s → may_use s now p ≡ use'.Yes
+pub may_use_lem : (s : Station) (now p : ℕ) → use_refusal s.settings s.number s.reading now p ≡ Ok tt
+    → is_mode (mode_of s p) ≡ true → now < s.start + lease_of s → may_use s now p ≡ Ok true
 unfolding may_use
 may_use_lem s now p free mode left = rw (free, mode, lt-ltb now (s.start + lease_of s) left)
 
 -- the profile may be used before the event, and after it in the same mode
 pub record InUse (s : Station) (now p : ℕ) (e : Event) : Type 0 where
-  pub uses : may_use s now p ≡ use'.Yes
-  pub uses_after : may_use (step s now e).station now p ≡ use'.Yes
+  pub uses : may_use s now p ≡ Ok true
+  pub uses_after : may_use (step s now e).station now p ≡ Ok true
   pub mode_stays : mode_of (step s now e).station p ≡ mode_of s p
 
 -- so it is with an event that happens to a station within its lease, and leaves the lease and the mode of the profile that it names
-in_use_lem : (s : Station) (now : ℕ) (e : Event) → refusal_of s now e ≡ 0 → forbids (expire s now) e ≡ 0 → Leased s now
+in_use_lem : (s : Station) (now : ℕ) (e : Event) → refusal_of s now e ≡ Ok tt → forbids (expire s now) e ≡ Ok tt → Leased s now
     → is_mode (mode_of s (profile_for e)) ≡ true → (after (at_reading s now) e).start ≡ s.start
     → mode_of (after (at_reading s now) e) (profile_for e) ≡ mode_of s (profile_for e) → InUse s now (profile_for e) e
 unfolding after
@@ -76,7 +76,7 @@ in_use_lem s now e h f k m start same =
     let q = heard s now e h in
     let l = (heard_profile s now e q).0 in
     let left = k.left in
-    let free : (last : ℕ) → last ≤ now → use_refusal s.settings s.number last now p ≡ 0 =
+    let free : (last : ℕ) → last ≤ now → use_refusal s.settings s.number last now p ≡ Ok tt =
     λ last forward. use_free s.settings q.range s.number last now p q.own l q.limit forward in
     let becomes : (step s now e).station ≡ x =
     ap (λ (r : Stepped). r.station) (happens s now e h f) ∙ ap (λ (x : Station). after x e) k.same in

@@ -1,36 +1,34 @@
 -- The station's borders: from a received message to an event, and from what it sends to its message.
-use Rattle.std.specs.Prelude.{Bool, true, false, List, [], ◌∷◌, ℕ, zero, suc}
+use Rattle.std.specs.Prelude.{Bool, true, false, List, [], ◌∷◌, ℕ, zero, suc, Option, Some, None}
 use Rattle.modes.specs.Modes.{mode}
 use Rattle.requests.specs.Request.{said_request, message_of}
 use Rattle.record.specs.declared.message.Message.{Message}
 use Rattle.station.specs.Event.{Ack, Done, Granted, Wait, InUse, Event, Send, Begin, Edit, End, WriteOut, Restart, Acked, Nacked, Demand}
 use Rattle.station.specs.Effect.{Answer}
 use Rattle.station.specs.declared.event.Answer.TheVariants as answer
-pub use Rattle.station.specs.declared.border.Meant.{Meant}
-pub use Rattle.station.specs.declared.border.Meant.TheVariants.{For, NotForRoom}
 
 -- "6 ACK: detail 0 done .., 1 granted .., 2 wait or 3 in use"; the record has no other detail
-abbrev pub ack_as : ℕ → Message → Meant
-ack_as zero m = For (Acked m.station m.number Done)
-ack_as (suc zero) m = For (Acked m.station m.number (Granted m.profile (mode m.mode)))
-ack_as (suc (suc zero)) m = For (Acked m.station m.number (Wait m.profile))
-ack_as (suc (suc (suc zero))) m = For (Acked m.station m.number (InUse m.profile))
-ack_as (suc (suc (suc (suc n)))) m = NotForRoom
+abbrev pub ack_as : ℕ → Message → Option Event
+ack_as zero m = Some (Acked m.station m.number Done)
+ack_as (suc zero) m = Some (Acked m.station m.number (Granted m.profile (mode m.mode)))
+ack_as (suc (suc zero)) m = Some (Acked m.station m.number (Wait m.profile))
+ack_as (suc (suc (suc zero))) m = Some (Acked m.station m.number (InUse m.profile))
+ack_as (suc (suc (suc (suc n)))) m = None
 
 -- "only 6 to 8 to a room": 6 ACK, 7 NACK, 8 demand
-abbrev pub meant_as : ℕ → Message → Meant
+abbrev pub meant_as : ℕ → Message → Option Event
 meant_as (suc (suc (suc (suc (suc (suc zero)))))) m = ack_as m.detail m
-meant_as (suc (suc (suc (suc (suc (suc (suc zero))))))) m = For (Nacked m.station m.number m.detail)
-meant_as (suc (suc (suc (suc (suc (suc (suc (suc zero)))))))) m = For (Demand m.station m.profile (mode m.mode))
-meant_as zero m = NotForRoom
-meant_as (suc zero) m = NotForRoom
-meant_as (suc (suc zero)) m = NotForRoom
-meant_as (suc (suc (suc zero))) m = NotForRoom
-meant_as (suc (suc (suc (suc zero)))) m = NotForRoom
-meant_as (suc (suc (suc (suc (suc zero))))) m = NotForRoom
-meant_as (suc (suc (suc (suc (suc (suc (suc (suc (suc n))))))))) m = NotForRoom
+meant_as (suc (suc (suc (suc (suc (suc (suc zero))))))) m = Some (Nacked m.station m.number m.detail)
+meant_as (suc (suc (suc (suc (suc (suc (suc (suc zero)))))))) m = Some (Demand m.station m.profile (mode m.mode))
+meant_as zero m = None
+meant_as (suc zero) m = None
+meant_as (suc (suc zero)) m = None
+meant_as (suc (suc (suc zero))) m = None
+meant_as (suc (suc (suc (suc zero)))) m = None
+meant_as (suc (suc (suc (suc (suc zero))))) m = None
+meant_as (suc (suc (suc (suc (suc (suc (suc (suc (suc n))))))))) m = None
 
-unfoldable pub event_of : Message → Meant
+unfoldable pub event_of : Message → Option Event
 event_of m = meant_as m.kind m
 
 -- an event in the paper's numbers: whether there is one; the fields of its message; and for what is no message from the server,
@@ -75,9 +73,9 @@ said_event (Acked i k a) = said_ack i k a
 said_event (Nacked i k d) = said_as 0 7 i k 255 0 d
 said_event (Demand i p m) = said_as 0 8 i 0 p m.0 0
 
-abbrev pub said_meant : Meant → SaidMeant
-said_meant (For e) = said_event e
-said_meant NotForRoom =
+abbrev pub said_meant : Option Event → SaidMeant
+said_meant (Some e) = said_event e
+said_meant None =
     record { good = false; own = 0; kind = 0; station = 0; number = 0; profile = 0; mode = 0; detail = 0 }
 
 -- what an answer sends
@@ -85,4 +83,4 @@ unfoldable pub sent_by : ℕ → Answer → List Message
 sent_by own answer.Done = []
 sent_by own (answer.Sent number q) = message_of own number q ∷ []
 sent_by own (answer.Advice a) = []
-sent_by own (answer.Refused n) = []
+sent_by own (answer.Refused r) = []

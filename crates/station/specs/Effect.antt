@@ -1,6 +1,6 @@
 -- What an event that nothing forbids does to each part of a station, and what is answered.
-use Rattle.std.specs.Prelude.{Bool, true, false, cond, List, ℕ, ◌+◌, ◌-◌, ltb}
-use Rattle.station.specs.Event.{Request, Hello, KeepAlive, Ask, Release, Keep, Waiting, Nothing, Sent, Ack, Done, Granted, Wait, InUse, Event, Send, Begin, Edit, End, WriteOut, Restart, Acked, Nacked, Demand, Hold, Standing, Out, Open, Closing}
+use Rattle.std.specs.Prelude.{Bool, true, false, cond, List, ℕ, ◌+◌, ◌-◌, ltb, Option, Some, None}
+use Rattle.station.specs.Event.{Request, Hello, KeepAlive, Ask, Release, Keep, Sent, Ack, Done, Granted, Wait, InUse, Event, Send, Begin, Edit, End, WriteOut, Restart, Acked, Nacked, Demand, Hold, Standing, Out, Open, Closing}
 use Rattle.room.specs.Rules.{last_number}
 use Rattle.holds.specs.Hold.{no_holds, hold_in, with_mode, with_started, with_unwritten, changed}
 pub use Rattle.station.specs.declared.event.Advice.{Advice}
@@ -26,9 +26,9 @@ standing_after σ (Acked i k a) = Open
 standing_after σ (Nacked i k d) = nacked σ
 standing_after σ (Demand i p m) = σ
 
-abbrev pub sent_at : Waiting → ℕ
-sent_at Nothing = 0
-sent_at (Sent q t) = t
+abbrev pub sent_at : Option Sent → ℕ
+sent_at None = 0
+sent_at (Some w) = w.at
 
 -- "the lease starts at that message's sending": `sent` is when the waiting one was
 abbrev pub start_after : ℕ → ℕ → Event → ℕ
@@ -55,15 +55,15 @@ last_after last (Nacked i k d) = last
 last_after last (Demand i p m) = last
 
 -- ".. and becomes the waiting one in place of any other"; an ACK or a NACK of it: "nothing waits"
-abbrev pub waiting_after : Waiting → ℕ → Event → Waiting
-waiting_after w now (Send q) = Sent q now
+abbrev pub waiting_after : Option Sent → ℕ → Event → Option Sent
+waiting_after w now (Send q) = Some (record { request = q; at = now })
 waiting_after w now (Begin p m) = w
 waiting_after w now (Edit p) = w
 waiting_after w now (End p) = w
 waiting_after w now (WriteOut p) = w
-waiting_after w now Restart = Nothing
-waiting_after w now (Acked i k a) = Nothing
-waiting_after w now (Nacked i k d) = Nothing
+waiting_after w now Restart = None
+waiting_after w now (Acked i k a) = None
+waiting_after w now (Nacked i k d) = None
 waiting_after w now (Demand i p m) = w
 
 -- "Release drops mode at sending"

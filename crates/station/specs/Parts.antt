@@ -1,10 +1,14 @@
 -- The parts of a station that an event changes, with the one hold that it names. The code takes a station apart into them, and puts
 -- it together again. No rule stands here: proofs/Apart.antt leads each back to Effect and Station.
-use Rattle.std.specs.Prelude.{Bool, true, false, List, ℕ, zero, suc, ltb}
+use Rattle.std.specs.Prelude.{Bool, true, false, List, ℕ, ltb, None, Result, Ok, Err}
+use Rattle.refusals.specs.Refusal.{Verdict}
+use Rattle.refusals.specs.declared.Refusal.{Refusal}
 use Rattle.timing.specs.declared.settings.Settings.{Settings}
-use Rattle.station.specs.Event.{Request, Hello, KeepAlive, Ask, Release, Keep, Waiting, Nothing, Ack, Done, Granted, Wait, InUse, Event, Send, Begin, Edit, End, WriteOut, Restart, Acked, Nacked, Demand, Hold, Standing, Out}
-use Rattle.holds.specs.Hold.{most_started, no_hold, with_mode, with_unwritten}
+use Rattle.station.specs.Event.{Request, Hello, KeepAlive, Ask, Release, Keep, Ack, Done, Granted, Wait, InUse, Event, Send, Begin, Edit, End, WriteOut, Restart, Acked, Nacked, Demand, Hold, Out}
+use Rattle.timing.specs.Settings.{lease}
+use Rattle.holds.specs.Hold.{most_started, no_hold, hold_in, with_mode, with_unwritten}
 use Rattle.holds.specs.Stage.{stage_at}
+use Rattle.room.specs.declared.refusal.Asking.{Asking}
 use Rattle.room.specs.Rules.{event_forbids}
 use Rattle.station.specs.Effect.{standing_after, sent_at, start_after, last_after, waiting_after, begun, ended, Answer, advised}
 use Rattle.station.specs.Station.{Station}
@@ -61,13 +65,28 @@ answer_on number h (Acked i k a) = answer.Done
 answer_on number h (Nacked i k d) = answer.Done
 answer_on number h (Demand i p m) = answer.Advice (advised h)
 
+abbrev pub parts_with : Station → Hold → Parts
+parts_with s h = record { standing = s.standing; start = s.start; last = s.last; waiting = s.waiting; hold = h }
+
+abbrev pub parts_of : Station → ℕ → Parts
+parts_of s p = parts_with s (hold_in s.holds p)
+
+-- what 1 to 6 are asked of
+abbrev pub asking_of : Station → ℕ → Asking
+asking_of s now = record { settings = s.settings; number = s.number; last = s.reading; reading = now }
+
+-- the lease, at an event that they do not refuse
+abbrev pub lease_if : Verdict → Settings → Result ℕ Refusal
+lease_if (Ok _) z = Ok (lease z)
+lease_if (Err r) z = Err r
+
 -- as the event finds them
-unfoldable pub arrived_if : Bool → Standing → ℕ → ℕ → Waiting → Hold → Parts
-arrived_if true σ start last w h = record { standing = Out; start = 0; last = last; waiting = Nothing; hold = h }
-arrived_if false σ start last w h = record { standing = σ; start = start; last = last; waiting = w; hold = h }
+unfoldable pub arrived_if : Bool → Parts → Parts
+arrived_if true x = record { standing = Out; start = 0; last = x.last; waiting = None; hold = no_hold }
+arrived_if false x = x
 
 -- 8 to 14
-abbrev pub parts_forbid : Settings → ℕ → Parts → ℕ → Event → ℕ
+abbrev pub parts_forbid : Settings → ℕ → Parts → ℕ → Event → Verdict
 parts_forbid z lease x now e =
     event_forbids (stage_at z x.standing x.start now) x.hold x.waiting lease now x.last e
 
@@ -81,9 +100,9 @@ parts_after x now e =
       hold = hold_change e x.hold;
     }
 
-unfoldable pub if_free : ℕ → Parts → ℕ → Event → Outcome
-if_free zero x now e = record { parts = parts_after x now e; answer = answer_on (last_after x.last e) x.hold e }
-if_free (suc n) x now e = record { parts = x; answer = answer.Refused (suc n) }
+unfoldable pub if_free : Verdict → Parts → ℕ → Event → Outcome
+if_free (Ok _) x now e = record { parts = parts_after x now e; answer = answer_on (last_after x.last e) x.hold e }
+if_free (Err r) x now e = record { parts = x; answer = answer.Refused r }
 
 abbrev pub outcome_of : Settings → ℕ → Parts → ℕ → Event → Outcome
 outcome_of z lease x now e = if_free (parts_forbid z lease x now e) x now e

@@ -1,12 +1,14 @@
 -- Answers in the paper's numbers and values.
-use Rattle.std.specs.Prelude.{Bool, true, false, ℕ}
+use Rattle.std.specs.Prelude.{Bool, true, false, ℕ, Option, Some, None, Result, Ok, Err}
+use Rattle.refusals.specs.Refusal.{number}
+use Rattle.refusals.specs.declared.Refusal.{Refusal}
+use Rattle.timing.specs.declared.settings.Phase.{Phase}
+use Rattle.timing.specs.Phase.{phase_number}
 use Rattle.requests.specs.Request.{said_request}
 use Rattle.station.specs.Effect.{Advice, Answer}
-use Rattle.station.specs.Station.{Station, Stepped, PhaseAnswer, UseAnswer}
+use Rattle.station.specs.Station.{Station, Stepped}
 use Rattle.station.specs.declared.event.Advice.TheVariants as advice
 use Rattle.station.specs.declared.event.Answer.TheVariants as answer
-use Rattle.station.specs.declared.event.PhaseAnswer.TheVariants as phase
-use Rattle.station.specs.declared.event.UseAnswer.TheVariants as use'
 
 -- whether it is no refusal; the refusal; kind, number, profile, mode and detail of the message sent (kind 0: none is sent);
 -- the advice: 1 keep, 2 write out first, 3 release
@@ -57,7 +59,7 @@ abbrev pub said : Answer → Said
 said answer.Done = silent true 0 0
 said (answer.Sent n q) = message (said_request q).kind n (said_request q).profile (said_request q).mode
 said (answer.Advice v) = silent true 0 (said_advice v)
-said (answer.Refused n) = silent false n 0
+said (answer.Refused r) = silent false (number r) 0
 
 -- what an event leaves behind: the whole station, the answer, the lost profiles and their count
 pub record Told : Type 0 where
@@ -76,17 +78,16 @@ pub record SaidPhase : Type 0 where
   pub out : Bool
   pub phase : ℕ
 
-abbrev pub said_phase : PhaseAnswer → SaidPhase
-said_phase (phase.Phase n) = record { good = true; refusal = 0; out = false; phase = n }
-said_phase phase.Out = record { good = true; refusal = 0; out = true; phase = 0 }
-said_phase (phase.Refused n) = record { good = false; refusal = n; out = false; phase = 0 }
+abbrev pub said_phase : Result (Option Phase) Refusal → SaidPhase
+said_phase (Ok (Some f)) = record { good = true; refusal = 0; out = false; phase = phase_number f }
+said_phase (Ok None) = record { good = true; refusal = 0; out = true; phase = 0 }
+said_phase (Err r) = record { good = false; refusal = number r; out = false; phase = 0 }
 
 pub record SaidUse : Type 0 where
   pub good : Bool
   pub refusal : ℕ
   pub yes : Bool
 
-abbrev pub said_use : UseAnswer → SaidUse
-said_use use'.Yes = record { good = true; refusal = 0; yes = true }
-said_use use'.No = record { good = true; refusal = 0; yes = false }
-said_use (use'.Refused n) = record { good = false; refusal = n; yes = false }
+abbrev pub said_use : Result Bool Refusal → SaidUse
+said_use (Ok b) = record { good = true; refusal = 0; yes = b }
+said_use (Err r) = record { good = false; refusal = number r; yes = false }

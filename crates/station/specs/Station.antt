@@ -1,10 +1,14 @@
 -- The station's step: any event at any reading. And the two questions.
-use Rattle.std.specs.Prelude.{Bool, true, false, ◌&&◌, not, List, [], ℕ, zero, suc, ◌+◌, ltb}
+use Rattle.std.specs.Prelude.{Bool, true, false, ◌&&◌, not, List, [], ℕ, zero, suc, ◌+◌, ltb, Option, Some, None, Result, Ok, Err}
+use Rattle.refusals.specs.Refusal.{Verdict}
+use Rattle.refusals.specs.declared.Refusal.{Refusal}
 use Rattle.masks.specs.Mask.{Set, mask, count}
 use Rattle.modes.specs.Modes.{is_mode}
 use Rattle.timing.specs.declared.settings.Settings.{Settings}
 use Rattle.timing.specs.Settings.{lease}
-use Rattle.station.specs.Event.{Nothing, Event, Send, Begin, Edit, End, WriteOut, Restart, Acked, Nacked, Demand, Hold, Out, Stage}
+use Rattle.timing.specs.declared.settings.Phase.{Phase}
+use Rattle.timing.specs.declared.settings.Phase.TheVariants.{First, Second, Third, Fourth}
+use Rattle.station.specs.Event.{Event, Send, Begin, Edit, End, WriteOut, Restart, Acked, Nacked, Demand, Hold, Out, Stage}
 use Rattle.holds.specs.Hold.{no_holds, hold_in, unwritten_set}
 use Rattle.holds.specs.Stage.{is_out, phase_at, stage_at}
 use Rattle.timing.specs.Reading.{passed}
@@ -12,10 +16,6 @@ use Rattle.room.specs.Refusal.{own_refusal, refusal, phase_refusal, use_refusal}
 use Rattle.room.specs.Rules.{profile_for, event_forbids}
 use Rattle.station.specs.Effect.{standing_after, sent_at, start_after, last_after, waiting_after, holds_after, Answer, answer_to}
 use Rattle.station.specs.declared.event.Answer.TheVariants as answer
-pub use Rattle.station.specs.declared.event.PhaseAnswer.{PhaseAnswer}
-use Rattle.station.specs.declared.event.PhaseAnswer.TheVariants as phase
-pub use Rattle.station.specs.declared.event.UseAnswer.{UseAnswer}
-use Rattle.station.specs.declared.event.UseAnswer.TheVariants as use'
 pub use Rattle.station.specs.declared.station.Station.{Station}
 pub use Rattle.station.specs.declared.station.Made.{Made}
 pub use Rattle.station.specs.declared.station.Stepped.{Stepped}
@@ -50,7 +50,7 @@ gone s now =
       start = 0;
       last = s.last;
       reading = now;
-      waiting = Nothing;
+      waiting = None;
       holds = no_holds;
     }
 
@@ -77,12 +77,12 @@ new_station z own =
       start = 0;
       last = 0;
       reading = 0;
-      waiting = Nothing;
+      waiting = None;
       holds = no_holds;
     }
 
 abbrev pub made : Settings → ℕ → Made
-made z own = record { station = new_station z own; refusal = own_refusal z own }
+made z own = record { station = new_station z own; checked = own_refusal z own }
 
 -- "a lease that has run L ticks"
 abbrev pub is_over : Station → ℕ → Bool
@@ -117,7 +117,7 @@ abbrev pub lost : Station → ℕ → Event → Set
 lost s now e = lost_if (is_over s now && not (is_restart e)) s.holds
 
 -- 8 to 14, at a station that has taken the event's reading
-abbrev pub forbids : Station → Event → ℕ
+abbrev pub forbids : Station → Event → Verdict
 forbids x e =
     event_forbids (stage_of x) (hold_at x (profile_for e)) x.waiting (lease_of x) x.reading x.last e
 
@@ -139,35 +139,38 @@ abbrev pub stepped : Station → Answer → ℕ → ℕ → Stepped
 stepped s a lost count = record { station = s; answer = a; lost = lost; count = count }
 
 -- "8 to 14 change the reading and may end the lease, nothing else."
-unfoldable pub if_allowed : ℕ → Station → Event → ℕ → ℕ → Stepped
-if_allowed zero x e lost count = stepped (after x e) (answer_to (last_after x.last e) x.holds e) lost count
-if_allowed (suc n) x e lost count = stepped x (answer.Refused (suc n)) lost count
+unfoldable pub if_allowed : Verdict → Station → Event → ℕ → ℕ → Stepped
+if_allowed (Ok _) x e lost count = stepped (after x e) (answer_to (last_after x.last e) x.holds e) lost count
+if_allowed (Err r) x e lost count = stepped x (answer.Refused r) lost count
 
 abbrev pub judged : Station → Event → ℕ → ℕ → Stepped
 judged x e lost count = if_allowed (forbids x e) x e lost count
 
 -- "Refusals 1 to 6 change nothing."
-unfoldable pub if_good : ℕ → Station → ℕ → Event → Stepped
-if_good zero s now e = judged (expire s now) e (mask (lost s now e)) (count (lost s now e))
-if_good (suc n) s now e = stepped s (answer.Refused (suc n)) 0 0
+unfoldable pub if_good : Verdict → Station → ℕ → Event → Stepped
+if_good (Ok _) s now e = judged (expire s now) e (mask (lost s now e)) (count (lost s now e))
+if_good (Err r) s now e = stepped s (answer.Refused r) 0 0
 
 -- 1 to 6, at a station as it was before
-abbrev pub refusal_of : Station → ℕ → Event → ℕ
+abbrev pub refusal_of : Station → ℕ → Event → Verdict
 refusal_of s now e = refusal s.settings s.number s.reading now e
 
 unfoldable pub step : Station → ℕ → Event → Stepped
 step s now e = if_good (refusal_of s now e) s now e
 
--- "Which phase: 1 to 4, or out"
-abbrev pub phase_said : ℕ → PhaseAnswer
-phase_said zero = phase.Out
-phase_said (suc n) = phase.Phase (suc n)
+-- "Which phase: 1 to 4, or out", which is 0
+abbrev pub phase_of : ℕ → Option Phase
+phase_of zero = None
+phase_of (suc zero) = Some First
+phase_of (suc (suc zero)) = Some Second
+phase_of (suc (suc (suc zero))) = Some Third
+phase_of (suc (suc (suc (suc n)))) = Some Fourth
 
-abbrev pub if_asked : ℕ → ℕ → PhaseAnswer
-if_asked zero n = phase_said n
-if_asked (suc r) n = phase.Refused (suc r)
+abbrev pub if_asked : Verdict → ℕ → Result (Option Phase) Refusal
+if_asked (Ok _) n = Ok (phase_of n)
+if_asked (Err r) n = Err r
 
-unfoldable pub phase_asked : Station → ℕ → PhaseAnswer
+unfoldable pub phase_asked : Station → ℕ → Result (Option Phase) Refusal
 phase_asked s now =
     if_asked (phase_refusal s.settings s.number s.reading now)
     (phase_at s.settings s.standing s.start now)
@@ -176,10 +179,9 @@ phase_asked s now =
 abbrev pub usable : Station → ℕ → ℕ → Bool
 usable s now p = is_mode (mode_of s p) && ltb now (s.start + lease_of s)
 
-abbrev pub if_use : ℕ → Bool → UseAnswer
-if_use zero true = use'.Yes
-if_use zero false = use'.No
-if_use (suc r) b = use'.Refused (suc r)
+abbrev pub if_use : Verdict → Bool → Result Bool Refusal
+if_use (Ok _) b = Ok b
+if_use (Err r) b = Err r
 
-unfoldable pub may_use : Station → ℕ → ℕ → UseAnswer
+unfoldable pub may_use : Station → ℕ → ℕ → Result Bool Refusal
 may_use s now p = if_use (use_refusal s.settings s.number s.reading now p) (usable s now p)

@@ -7,39 +7,30 @@ use crate::event::{Ack, Event, Request};
 use modes::Mode;
 use record::Message;
 
-// An event, or a message of the other side's kinds, which is the caller's to drop.
-#[derive(Clone, Copy)]
-pub enum Meant {
-    For(Event),
-    NotForRoom,
-}
-
-fn ack_of(m: Message) -> Meant
+fn ack_of(m: Message) -> Option<Event>
     ensures { result ≡ ack_as m.detail m }
 {
-    let detail = m.detail;
-    match detail {
-        0 => Meant::For(Event::Ack(m.station, m.number, Ack::Done)),
-        1 => {
-            let granted = Ack::Granted(m.profile, Mode(m.mode));
-            Meant::For(Event::Ack(m.station, m.number, granted))
-        }
-        2 => Meant::For(Event::Ack(m.station, m.number, Ack::Wait(m.profile))),
-        3 => Meant::For(Event::Ack(m.station, m.number, Ack::InUse(m.profile))),
-        _ => Meant::NotForRoom,
-    }
+    let ack = match m.detail {
+        Message::DONE => Ack::Done,
+        Message::GRANTED => Ack::Granted(m.profile, Mode(m.mode)),
+        Message::WAIT => Ack::Wait(m.profile),
+        Message::IN_USE => Ack::InUse(m.profile),
+        _ => return None,
+    };
+    Some(Event::Ack(m.station, m.number, ack))
 }
 
-// The event that a message is.
-pub fn event_of(m: Message) -> Meant
+// The event that a message is, or none where it is of the other side's kinds, which is the caller's to drop.
+// Kept: a function and no TryFrom: a message and an event are both types of other crates, so the impl cannot stand here.
+#[tactic(auto, unfolding(crate::specs::Border::event_of))]
+pub fn event_of(m: Message) -> Option<Event>
     ensures { said_meant result ≡ said_meant (event_of m) }
 {
-    let kind = m.kind;
-    match kind {
-        6 => ack_of(m),
-        7 => Meant::For(Event::Nack(m.station, m.number, m.detail)),
-        8 => Meant::For(Event::Demand(m.station, m.profile, Mode(m.mode))),
-        _ => Meant::NotForRoom,
+    match m.kind {
+        Message::ACK => ack_of(m),
+        Message::NACK => Some(Event::Nack(m.station, m.number, m.detail)),
+        Message::DEMAND => Some(Event::Demand(m.station, m.profile, Mode(m.mode))),
+        _ => None,
     }
 }
 

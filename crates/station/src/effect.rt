@@ -3,7 +3,7 @@ ghost use Rattle.std.specs.Prelude.{◌≡◌, true};
 ghost use Rattle.station.specs.Effect.{standing_after, nacked, sent_at, start_after, last_after, waiting_after, advised, number_free};
 ghost use Rattle.station.specs.Parts.{sent_change, acked_change, hold_change, hold_free, answer_on};
 
-use crate::event::{Ack, Advice, Answer, Event, Request, Waiting};
+use crate::event::{Ack, Advice, Answer, Event, Request, Sent};
 use holds::hold::Hold;
 use holds::stage::Standing;
 use modes::Mode;
@@ -24,19 +24,16 @@ fn nacked(standing: Standing) -> Standing
 {
     match standing {
         Standing::Out => Standing::Out,
-        Standing::Open => Standing::Closing,
-        Standing::Closing => Standing::Closing,
+        Standing::Open | Standing::Closing => Standing::Closing,
     }
 }
 
-// When the waiting message was sent.
-pub(crate) fn sent_at(waiting: Waiting) -> u64
+// When the waiting message was sent; 0 where none waits.
+// Kept: a number, since an ACK, for which alone it counts, is not allowed where none waits.
+pub(crate) fn sent_at(waiting: Option<Sent>) -> u64
     ensures { result ≡ sent_at waiting }
 {
-    match waiting {
-        Waiting::Nothing => 0,
-        Waiting::Sent(_, at) => at,
-    }
+    waiting.map_or(0, |sent| sent.at)
 }
 
 // `sent` is when the waiting message was.
@@ -60,14 +57,15 @@ pub(crate) fn last_after(last: u32, event: Event) -> u32
     }
 }
 
-pub(crate) fn waiting_after(waiting: Waiting, reading: u64, event: Event) -> Waiting
+pub(crate) fn waiting_after(waiting: Option<Sent>, reading: u64, event: Event) -> Option<Sent>
     ensures { result ≡ waiting_after waiting reading event }
 {
     match event {
-        Event::Send(request) => Waiting::Sent(request, reading),
-        Event::Restart => Waiting::Nothing,
-        Event::Ack(_, _, _) => Waiting::Nothing,
-        Event::Nack(_, _, _) => Waiting::Nothing,
+        Event::Send(request) => Some(Sent {
+            request,
+            at: reading,
+        }),
+        Event::Restart | Event::Ack(_, _, _) | Event::Nack(_, _, _) => None,
         _ => waiting,
     }
 }
@@ -105,22 +103,22 @@ pub(crate) fn hold_after(hold: Hold, event: Event) -> Hold
         Event::WriteOut(_) => hold.with_unwritten(false),
         Event::Restart => Hold::empty(),
         Event::Ack(_, _, ack) => hold_acked(hold, ack),
-        Event::Nack(_, _, _) => hold,
-        Event::Demand(_, _, _) => hold,
+        Event::Nack(_, _, _) | Event::Demand(_, _, _) => hold,
     }
 }
 
 // Keep while operations are started, else write out first if unwritten, else release.
+#[tactic(auto, unfolding(crate::specs::Effect::advised))]
 fn advice(hold: Hold) -> Advice
     ensures { result ≡ advised hold }
 {
     if 0 < hold.started {
-        return Advice::Keep;
+        Advice::Keep
+    } else if hold.unwritten {
+        Advice::WriteOut
+    } else {
+        Advice::Release
     }
-    if hold.unwritten {
-        return Advice::WriteOut;
-    }
-    Advice::Release
 }
 
 // `number` is the last one after the event, `hold` of the profile that it names.
@@ -129,10 +127,7 @@ pub(crate) fn answer_to(number: u32, hold: Hold, event: Event) -> Answer
 {
     match event {
         Event::Send(request) => Answer::Sent(number, request),
-        Event::Demand(_, _, _) => {
-            let advised = advice(hold);
-            Answer::Advice(advised)
-        }
+        Event::Demand(_, _, _) => Answer::Advice(advice(hold)),
         _ => Answer::Done,
     }
 }

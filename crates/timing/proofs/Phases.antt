@@ -1,28 +1,28 @@
 -- The phase that each stretch of a lease is in.
 -- Assumes nothing.
-use Rattle.std.proofs.Common.{◌≡◌, ℕ, ◌-◌, ◌<◌, ◌≤◌, sym, ap, ◌∙◌, arith, le-ltb, lt-ltb}
+use Rattle.std.proofs.Common.{◌≡◌, ℕ, ◌-◌, ◌<◌, ◌≤◌, sym, ap, ◌∙◌, arith, le-ltb, lt-ltb, None}
 use Rattle.timing.specs.Settings.{Settings, lease}
-use Rattle.timing.specs.Phase.{SaidPhase, said_phase, edge1, edge2, edge3, phase_after, First, Second, Third, Fourth, Out}
+use Rattle.timing.specs.Phase.{SaidPhase, said_phase, edge1, edge2, edge3, phase_after, in_phase, First, Second, Third, Fourth}
 
 module _ (z : Settings) (t : ℕ) where
-  pub in_first : t < edge1 z → phase_after z t ≡ First (edge1 z - t)
+  pub in_first : t < edge1 z → phase_after z t ≡ in_phase First (edge1 z - t)
   unfolding phase_after
   in_first h = simp (lt-ltb t (edge1 z) h)
 
-  pub in_second : edge1 z ≤ t → t < edge2 z → phase_after z t ≡ Second (edge2 z - t)
+  pub in_second : edge1 z ≤ t → t < edge2 z → phase_after z t ≡ in_phase Second (edge2 z - t)
   unfolding phase_after
   in_second h k = simp (le-ltb t (edge1 z) h, lt-ltb t (edge2 z) k)
 
-  pub in_third : edge2 z ≤ t → t < edge3 z → phase_after z t ≡ Third (edge3 z - t)
+  pub in_third : edge2 z ≤ t → t < edge3 z → phase_after z t ≡ in_phase Third (edge3 z - t)
   unfolding phase_after
   in_third h k = simp (le-ltb t (edge1 z) (omega arith), le-ltb t (edge2 z) h, lt-ltb t (edge3 z) k)
 
-  pub in_fourth : edge3 z ≤ t → t < lease z → phase_after z t ≡ Fourth (lease z - t)
+  pub in_fourth : edge3 z ≤ t → t < lease z → phase_after z t ≡ in_phase Fourth (lease z - t)
   unfolding phase_after
   in_fourth h k =
       simp (le-ltb t (edge1 z) (omega arith), le-ltb t (edge2 z) (omega arith), le-ltb t (edge3 z) h, lt-ltb t (lease z) k)
 
-  pub is_out_lem : lease z ≤ t → phase_after z t ≡ Out
+  pub is_out_lem : lease z ≤ t → phase_after z t ≡ None
   unfolding phase_after
   is_out_lem h =
       simp (le-ltb t (edge1 z) (omega arith), le-ltb t (edge2 z) (omega arith), le-ltb t (edge3 z) (omega arith), le-ltb t (lease z) h)

@@ -1,9 +1,11 @@
 -- Settings in range, as facts about their numbers.
 -- Assumes nothing.
-use Rattle.std.proofs.Common.{◌≡◌, ℕ, ◌<◌, ◌≤◌, Bool, true, false, cond, ◌&&◌, leb, sym, refl, ap, ◌∙◌, arith, le-leb, leb-true}
+use Rattle.std.proofs.Common.{◌≡◌, ℕ, ◌<◌, ◌≤◌, Bool, true, false, cond, ◌&&◌, leb, sym, refl, ap, arith, le-leb, leb-true, Ok, Err}
 use mathlib.Core.Bool.{and-eq-true_iff}
 use Rattle.timing.specs.Limits.{lease_shortest, lease_longest, rate_largest, answer_longest, most_stations, most_profiles}
-use Rattle.timing.specs.Settings.{Settings, lease, within, lengths_good, rate_good, counts_good, in_range, settings_refusal}
+use Rattle.timing.specs.Settings.{Settings, lease, within, lengths_good, rate_good, counts_good, in_range, settings_refusal, lease_checked}
+use Rattle.refusals.proofs.Choice.{past_unless}
+use Rattle.refusals.specs.declared.Refusal.TheVariants as refusal
 
 pub record Lengths (z : Settings) : Type 0 where
   pub one : 1 ≤ z.phase1
@@ -109,23 +111,15 @@ module _ (z : Settings) where
       simp (le-leb 1 z.r h1, le-leb z.r answer_longest h2, le-leb 1 z.stations h3, le-leb z.stations most_stations h4, le-leb 1 z.profiles h5)
 
   -- what the code's answer tells
-  pub good : (r : ℕ) → r ≡ settings_refusal z → r ≡ 0 → in_range z ≡ true
-  good r e h = by_test (in_range z) refl
+  pub good : settings_refusal z ≡ Ok tt → in_range z ≡ true
+  good e = (past_unless (in_range z) (Ok tt) refusal.Settings e).0
+
+  pub lease_known : (l : ℕ) → lease_checked z ≡ Ok l → (in_range z ≡ true) × (l ≡ lease z)
+  lease_known l e = by_test (in_range z) refl
     where
-      by_test : (t : Bool) → in_range z ≡ t → in_range z ≡ true
-      by_test true q = q
-      by_test false q = let w : r ≡ 1 = e ∙ ap (λ (t : Bool). cond t 0 1) q in absurd (omega arith)
+      by_test : (t : Bool) → in_range z ≡ t → (in_range z ≡ true) × (l ≡ lease z)
+      by_test true q = grind arith
+      by_test false q = grind arith
 
-  pub bad : (r : ℕ) → r ≡ settings_refusal z → (r ≡ 0 → ⊥) → in_range z ≡ false
-  bad r e h = by_test (in_range z) refl
-    where
-      by_test : (t : Bool) → in_range z ≡ t → in_range z ≡ false
-      by_test true q = absurd (h (e ∙ ap (λ (t : Bool). cond t 0 1) q))
-      by_test false q = q
-
-  -- the lease and the wait, by the test
-  pub answer_bad : (x : ℕ) → in_range z ≡ false → 0 ≡ cond (in_range z) x 0
-  answer_bad x e = sym (ap (λ (t : Bool). cond t x 0) e)
-
-  pub answer_good : (x : ℕ) → in_range z ≡ true → x ≡ cond (in_range z) x 0
-  answer_good x e = sym (ap (λ (t : Bool). cond t x 0) e)
+  pub answer_good : (x : ℕ) → in_range z ≡ true → Ok x ≡ cond (in_range z) (Ok x) (Err refusal.Settings)
+  answer_good x e = sym (ap (λ (t : Bool). cond t (Ok x) (Err refusal.Settings)) e)

@@ -1,5 +1,8 @@
 -- The settings, the lease, the wait and the rate rule.
-use Rattle.std.specs.Prelude.{ℕ, ◌+◌, ◌-◌, ◌*◌, ◌/◌, ◌<◌, Bool, cond, ◌&&◌, nat_le}
+use Rattle.std.specs.Prelude.{ℕ, ◌+◌, ◌-◌, ◌*◌, ◌/◌, ◌<◌, Bool, cond, ◌&&◌, nat_le, Result, Ok, Err}
+use Rattle.refusals.specs.Refusal.{Verdict}
+use Rattle.refusals.specs.declared.Refusal.{Refusal}
+use Rattle.refusals.specs.declared.Refusal.TheVariants as refusal
 use Rattle.timing.specs.Limits.{lease_shortest, lease_longest, rate_largest, answer_longest, most_stations, most_profiles}
 pub use Rattle.timing.specs.declared.settings.Settings.{Settings}
 
@@ -47,8 +50,8 @@ abbrev pub in_range : Settings → Bool
 in_range z = lengths_good z && rate_good z && counts_good z
 
 -- refusal 1: "a setting out of range"
-abbrev pub settings_refusal : Settings → ℕ
-settings_refusal z = cond (in_range z) 0 1
+abbrev pub settings_refusal : Settings → Verdict
+settings_refusal z = cond (in_range z) (Ok tt) (Err refusal.Settings)
 
 -- a quotient "rounded up to a whole number"
 abbrev pub rounded_up : ℕ → ℕ → ℕ
@@ -64,6 +67,13 @@ lease_answer z = cond (in_range z) (lease z) 0
 
 abbrev pub wait_answer : Settings → ℕ
 wait_answer z = cond (in_range z) (wait z) 0
+
+-- the same with refusal 1 there
+abbrev pub lease_checked : Settings → Result ℕ Refusal
+lease_checked z = cond (in_range z) (Ok (lease z)) (Err refusal.Settings)
+
+abbrev pub wait_checked : Settings → Result ℕ Refusal
+wait_checked z = cond (in_range z) (Ok (wait z)) (Err refusal.Settings)
 
 -- "with reading differences a on one clock and b on the other, (b-1)·D < (a+1)·(D+N)", one way round.
 -- Where b is 0 the paper's left side is below 0, and here it is 0: the rule holds of both, since D is at least 1.

@@ -5,8 +5,8 @@ use mathlib.Core.Path.{◌≡◌, refl}
 use mathlib.Core.List.{List, [], ◌∷◌}
 use lib.ListN.{replicate}
 use Rattle.record.specs.declared.message.Message.{Message}
-use Rattle.writer.specs.declared.put.Put.TheVariants as put
-use Rattle.record.specs.declared.read.Read.TheVariants as read
+use Rattle.std.specs.Prelude.{Ok, Err}
+use Rattle.refusals.specs.declared.Refusal.TheVariants.{NotAllowed}
 use Rattle.record.specs.Allowed.{others, demands, allowed}
 use Rattle.writer.specs.Put.{put_answer, put_content}
 use Rattle.record.specs.Read.{read_bytes, read_at}
@@ -20,11 +20,11 @@ ask_bytes wanted = 0xB7 ∷ 0x1E ∷ 0x03 ∷ 0x03 ∷ 0x00 ∷ 0x00 ∷ 0x01 �
 abbrev room : List ℕ
 room = replicate 11 0xEE
 
-pub hand_checked : (put_answer (ask_in 4) 0 room ≡ put.Next 11)
+pub hand_checked : (put_answer (ask_in 4) 0 room ≡ Ok 11)
     × (put_content (ask_in 4) 0 room ≡ ask_bytes 4)
-    × (read_at (ask_bytes 4) 0 ≡ read.Record (ask_in 4) 11)
-    × (put_answer (ask_in 7) 0 room ≡ put.Refused 18)
+    × (read_at (ask_bytes 4) 0 ≡ Ok (ask_in 4, 11))
+    × (put_answer (ask_in 7) 0 room ≡ Err NotAllowed)
     × (put_content (ask_in 7) 0 room ≡ room)
-    × (read_at (ask_bytes 7) 0 ≡ read.Refused 18)
+    × (read_at (ask_bytes 7) 0 ≡ Err NotAllowed)
 unfolding allowed others demands read_bytes
 hand_checked = (refl, refl, refl, refl, refl, refl)

@@ -11,25 +11,24 @@ use lib.Seq.{take_all, drop-drop}
 use borrow.Author.Tests.{lt-ltb, le-ltb, ltb-true, ltb-false}
 use borrow.Rule.Slice.PartMut.{mid_of, post_of, put_mid, put_same}
 use Rattle.record.specs.declared.message.Message.{Message}
-use Rattle.writer.specs.declared.put.Put.{Put}
-use Rattle.writer.specs.declared.put.Put.TheVariants.{Next, Refused}
+use Rattle.std.specs.Prelude.{Ok, Err}
 use Rattle.record.specs.Allowed.{allowed}
-use Rattle.writer.specs.Put.{put_answer, put_content}
+use Rattle.writer.specs.Put.{Put, put_answer, put_content}
 
 -- what an accepted write says
-pub accepted : (m : Message) (at : ℕ) (l : List ℕ) (next : ℕ) → put_answer m at l ≡ Next next
+pub accepted : (m : Message) (at : ℕ) (l : List ℕ) (next : ℕ) → put_answer m at l ≡ Ok next
     → (allowed m ≡ true) × (at + 11 ≤ length l) × (next ≡ at + 11)
 accepted m at l next e = ways (allowed m) (ltb (length l) (at + 11)) refl refl
   where
     ways : (t u : Bool) → allowed m ≡ t → ltb (length l) (at + 11) ≡ u
         → (allowed m ≡ true) × (at + 11 ≤ length l) × (next ≡ at + 11)
-    ways false u p q = let x : put_answer m at l ≡ Refused 18 = simp p in let z : ◌≡◌ {A = ℕ} 0 1 = cc in absurd (omega arith)
-    ways true true p q = let x : put_answer m at l ≡ Refused 19 = simp (p, q) in let z : ◌≡◌ {A = ℕ} 0 1 = cc in absurd (omega arith)
-    ways true false p q = let x : put_answer m at l ≡ Next (at + 11) = simp (p, q) in (p, ltb-false _ _ q, (cc))
+    ways false u p q = grind arith
+    ways true true p q = grind arith
+    ways true false p q = grind arith
 
 abbrev pub moved : ℕ → Put → Put
-moved start (Next next) = Next (start + next)
-moved start (Refused refusal) = Refused refusal
+moved start (Ok next) = Ok (start + next)
+moved start (Err refusal) = Err refusal
 
 module _ (m : Message) (at : ℕ) (l : List ℕ) (start : ℕ) (from : start ≡ min at (length l)) where
   rest_is : mid_of start (length l - start) l ≡ drop start l
@@ -51,7 +50,7 @@ module _ (m : Message) (at : ℕ) (l : List ℕ) (start : ℕ) (from : start ≡
       → moved start (put_answer m 0 (mid_of start (length l - start) l)) ≡ put_answer m at l
   answers false u p q = simp p
   answers true true p q = simp (p, q, no_room q)
-  answers true false p q = simp (p, q, room q) (ap (λ (n : ℕ). Next (n + 11)) (there q))
+  answers true false p q = simp (p, q, room q) (ap (λ (n : ℕ). Ok (n + 11)) (there q))
 
   pub lent_answer : moved start (put_answer m 0 (mid_of start (length l - start) l)) ≡ put_answer m at l
   lent_answer = answers (allowed m) (ltb (length l) (at + 11)) refl refl

@@ -5,22 +5,18 @@ use mathlib.Core.Path.{◌≡◌, refl, sym, ap, ◌∙◌}
 use mathlib.Core.List.{List, [], ◌∷◌, ◌++◌}
 use mathlib.Core.Bool.{Bool, true, false, true≢false, and-false}
 use native.Mathlib.Omega.{arith}
-use lib.Dec.{ltb, eqb}
+use lib.Dec.{eqb}
 use lib.ListN.{length, get_or, take, drop, length-take, length-drop, take-append-drop}
 use lib.Seq.{take_at, drop_at, drop-cons, length-take-le, drop-drop, get_or-take, get_or-drop, take-take}
 use borrow.Author.Tests.{le-ltb, ne_eqb}
 use Rattle.record.specs.declared.message.Message.{Message}
-use Rattle.writer.specs.declared.put.Put.{Put}
-use Rattle.writer.specs.declared.put.Put.TheVariants as put
-use Rattle.record.specs.declared.read.Read.{Read}
-use Rattle.record.specs.declared.read.Read.TheVariants as read
+use Rattle.std.specs.Prelude.{Ok, Err}
 use Rattle.record.specs.Allowed.{is_kind, others, demands, allowed}
-use Rattle.writer.specs.Put.{bytes_of, put_answer, put_content}
-use Rattle.record.specs.Read.{marked, message_of, read_bytes, read_at}
+use Rattle.writer.specs.Put.{Put, bytes_of, put_answer, put_content}
+use Rattle.record.specs.Read.{Read, message_of, read_bytes, read_at}
 use Rattle.record.proofs.BigEndian.{digits_back, number_back}
 use Rattle.writer.proofs.Lent as lent
 use Rattle.record.proofs.Told.{Told, told}
-use Rattle.record.proofs.Ways.{unkind, unallowed, accepted}
 
 -- ---- a message the record allows has one of the eight kinds
 other : (k c : ℕ) → is_kind k ≡ false → is_kind c ≡ true → eqb k c ≡ false
@@ -33,11 +29,7 @@ no_kind m h =
     simp (other k 1 h refl, other k 2 h refl, other k 3 h refl, other k 4 h refl, other k 5 h refl, other k 6 h refl, other k 7 h refl, other k 8 h refl, and-false)
 
 pub kind_allowed : (m : Message) → allowed m ≡ true → is_kind m.kind ≡ true
-kind_allowed m h = ways (is_kind m.kind) refl
-  where
-    ways : (t : Bool) → is_kind m.kind ≡ t → is_kind m.kind ≡ true
-    ways true e = e
-    ways false e = absurd (true≢false (sym h ∙ no_kind m e))
+kind_allowed m h = grind (arith, no_kind m)
 
 -- ---- written, then read
 module _ (m : Message) (fits : m.number < 256 ^ 4) where
@@ -54,17 +46,16 @@ module _ (m : Message) (fits : m.number < 256 ^ 4) where
       })
       (digits_back 4 m.number fits)
 
-  bytes_read : (next : ℕ) → allowed m ≡ true → read_bytes (bytes_of m) next ≡ read.Record m next
-  bytes_read next h =
-      accepted (bytes_of m) next (omega arith) refl (kind_allowed m h) (ap allowed message_back ∙ h)
-      ∙ ap (λ (x : Message). read.Record x next) message_back
+  bytes_read : (next : ℕ) → allowed m ≡ true → read_bytes (bytes_of m) next ≡ Ok (m, next)
+  unfolding read_bytes
+  bytes_read next h = grind (arith, message_back, kind_allowed m h)
 
   eleven_there : (p q : List ℕ) (at : ℕ) → length p ≡ at → take 11 (drop at (p ++ (bytes_of m ++ q))) ≡ bytes_of m
   eleven_there p q at e = ap (take 11) (drop_at p (bytes_of m ++ q) at e) ∙ take_at (bytes_of m) q 11 refl
 
   -- A message the record allows, written and read at the same place, is that message and the next place.
-  pub put_then_read : (at : ℕ) (l : List ℕ) (next : ℕ) → put_answer m at l ≡ put.Next next
-      → read_at (put_content m at l) at ≡ read.Record m next
+  pub put_then_read : (at : ℕ) (l : List ℕ) (next : ℕ) → put_answer m at l ≡ Ok next
+      → read_at (put_content m at l) at ≡ Ok (m, next)
   put_then_read at l next e =
       let t = lent.accepted m at l next e in
       rw (e, t.2, eleven_there (take at l) (drop (at + 11) l) at (length-take-le at l (omega arith)))
@@ -72,19 +63,17 @@ module _ (m : Message) (fits : m.number < 256 ^ 4) where
 
 -- ---- one rule
 abbrev pub taken : Read → Bool
-taken (read.Record m next) = true
-taken (read.Refused refusal) = false
+taken (Ok (m, next)) = true
+taken (Err refusal) = false
 
 abbrev pub wrote : Put → Bool
-wrote (put.Next next) = true
-wrote (put.Refused refusal) = false
+wrote (Ok next) = true
+wrote (Err refusal) = false
 
 module _ (m : Message) (fits : m.number < 256 ^ 4) where
-  judged : (next : ℕ) (t u : Bool) → allowed m ≡ t → is_kind m.kind ≡ u → taken (read_bytes (bytes_of m) next) ≡ t
-  judged next true u p q = ap taken (bytes_read m fits next p)
-  judged next false false p q = ap taken (unkind (bytes_of m) next (omega arith) refl q)
-  judged next false true p q =
-      ap taken (unallowed (bytes_of m) next (omega arith) refl q (ap allowed (message_back m fits) ∙ p))
+  judged : (next : ℕ) → taken (read_bytes (bytes_of m) next) ≡ allowed m
+  unfolding read_bytes
+  judged next = grind (arith, message_back m fits, kind_allowed m)
 
   -- Where there is room, the writer takes a message exactly if the record allows it, and so does the reader its bytes.
   pub one_rule : (at : ℕ) (l : List ℕ) → at + 11 ≤ length l
@@ -99,7 +88,7 @@ module _ (m : Message) (fits : m.number < 256 ^ 4) where
       reads : taken (read_at (take at l ++ (bytes_of m ++ drop (at + 11) l)) at) ≡ allowed m
       reads =
           rw (eleven_there m fits (take at l) (drop (at + 11) l) at (length-take-le at l (omega arith)))
-          (judged (at + 11) (allowed m) (is_kind m.kind) refl refl)
+          (judged (at + 11))
 
 -- ---- read, then written
 firsts : ℕ → ℕ → List ℕ → List ℕ
@@ -111,7 +100,7 @@ unfolding firsts
 firsts_is zero j l h = refl
 firsts_is (suc n) j l h = rw (drop-cons l j 0 (omega arith), firsts_is n (suc j) l (omega arith))
 
-module _ (s : List ℕ) (byte : (i : ℕ) → get_or s i 0 < 256) (at : ℕ) (m : Message) (next : ℕ) (e : read_at s at ≡ read.Record m next) where
+module _ (s : List ℕ) (byte : (i : ℕ) → get_or s i 0 < 256) (at : ℕ) (m : Message) (next : ℕ) (e : read_at s at ≡ Ok (m, next)) where
   abbrev eleven : List ℕ
   eleven = take 11 (drop at s)
 
@@ -140,11 +129,11 @@ module _ (s : List ℕ) (byte : (i : ℕ) → get_or s i 0 < 256) (at : ℕ) (m 
       ∙ rw (← f, ← g) (sym spelled)
 
   -- .. and so leaves the bytes that it was read from as they are.
-  pub written_anew : (put_answer m at s ≡ put.Next next) × (put_content m at s ≡ s)
+  pub written_anew : (put_answer m at s ≡ Ok next) × (put_content m at s ≡ s)
   written_anew =
       let good = known.good in
       let room = le-ltb (length s) (at + 11) there in
-      (simp (good, room) (ap put.Next known.place), simp (good, room) same)
+      (simp (good, room) (ap Ok known.place), simp (good, room) same)
     where
       same : take at s ++ (bytes_of m ++ drop (at + 11) s) ≡ s
       same =
@@ -153,20 +142,12 @@ module _ (s : List ℕ) (byte : (i : ℕ) → get_or s i 0 < 256) (at : ℕ) (m 
 
 -- ---- the eleven bytes alone
 abbrev pub next_at : ℕ → Read → Read
-next_at next (read.Record m n) = read.Record m next
-next_at next (read.Refused refusal) = read.Refused refusal
+next_at next (Ok (m, n)) = Ok (m, next)
+next_at next (Err refusal) = Err refusal
 
 next_apart : (b : List ℕ) (k n : ℕ) → next_at k (read_bytes b n) ≡ read_bytes b k
 unfolding read_bytes
-next_apart b k n = ways (ltb (length b) 11) (marked (get_or b 0 0) (get_or b 1 0)) (is_kind (message_of b).kind) (allowed (message_of b)) refl refl refl refl
-  where
-    ways : (t u v w : Bool) → ltb (length b) 11 ≡ t → marked (get_or b 0 0) (get_or b 1 0) ≡ u → is_kind (message_of b).kind ≡ v → allowed (message_of b) ≡ w
-        → next_at k (read_bytes b n) ≡ read_bytes b k
-    ways true u v w p q r x = simp p
-    ways false false v w p q r x = simp (p, q)
-    ways false true false w p q r x = simp (p, q, r)
-    ways false true true false p q r x = simp (p, q, r, x)
-    ways false true true true p q r x = simp (p, q, r, x)
+next_apart b k n = grind arith
 
 -- Reading depends on those eleven bytes only: the same bytes elsewhere are the same message or refusal, with the place after them.
 pub eleven_only : (s t : List ℕ) (a b : ℕ) → take 11 (drop a s) ≡ take 11 (drop b t) → next_at (b + 11) (read_at s a) ≡ read_at t b

@@ -8,10 +8,8 @@ use native.Mathlib.Omega.{arith}
 use lib.ListN.{get_or, take, drop}
 use lib.Seq.{take-take, take_at, length-take-le, take-nil}
 use Rattle.record.specs.declared.message.Message.{Message}
-use Rattle.writer.specs.declared.put.Put.{Put}
-use Rattle.writer.specs.declared.put.Put.TheVariants as put
-use Rattle.record.specs.declared.read.Read.TheVariants as read
-use Rattle.writer.specs.Put.{bytes_of, put_answer, put_content}
+use Rattle.std.specs.Prelude.{Ok, Err}
+use Rattle.writer.specs.Put.{Put, bytes_of, put_answer, put_content}
 use Rattle.record.specs.Read.{read_bytes, read_at}
 use Rattle.writer.specs.Run.{run_answer, run_content}
 use Rattle.writer.proofs.Lent.{accepted}
@@ -19,7 +17,7 @@ use Rattle.writer.proofs.Turns.{goes_answer, goes_content, ends_answer, ends_con
 use Rattle.writer.proofs.Round.{put_then_read}
 
 -- ---- one record
-module _ (m : Message) (at : ℕ) (l : List ℕ) (next : ℕ) (e : put_answer m at l ≡ put.Next next) where
+module _ (m : Message) (at : ℕ) (l : List ℕ) (next : ℕ) (e : put_answer m at l ≡ Ok next) where
   put_before : take at (put_content m at l) ≡ take at l
   put_before = let a = accepted m at l next e in simp e (take_at (take at l) (bytes_of m ++ drop (at + 11) l) at (length-take-le at l (omega arith)))
 
@@ -27,8 +25,8 @@ module _ (m : Message) (at : ℕ) (l : List ℕ) (next : ℕ) (e : put_answer m 
 kept_one : (m : Message) (ms : List Message) (at : ℕ) (l : List ℕ) (p : Put) → put_answer m at l ≡ p
     → ((next : ℕ) (k : List ℕ) → take next (run_content ms next k) ≡ take next k)
     → take at (run_content (m ∷ ms) at l) ≡ take at l
-kept_one m ms at l (put.Refused refusal) e g = ap (take at) (ends_content 0 m ms at l refusal e)
-kept_one m ms at l (put.Next next) e g =
+kept_one m ms at l (Err refusal) e g = ap (take at) (ends_content 0 m ms at l refusal e)
+kept_one m ms at l (Ok next) e g =
     let a = accepted m at l next e in
     let k = put_content m at l in
     ap (take at) (goes_content 0 m ms at l next e)
@@ -49,8 +47,8 @@ swap (suc at) n [] = rw (take-nil n, take-nil (suc at + n))
 swap (suc at) n (x ∷ l) = rw (suc-add at n) (swap at n l)
 
 -- ---- the first record of a run, whatever follows
-first_back : (m : Message) (ms : List Message) (at : ℕ) (l : List ℕ) (next : ℕ) → m.number < 256 ^ 4 → put_answer m at l ≡ put.Next next
-    → read_at (run_content (m ∷ ms) at l) at ≡ read.Record m next
+first_back : (m : Message) (ms : List Message) (at : ℕ) (l : List ℕ) (next : ℕ) → m.number < 256 ^ 4 → put_answer m at l ≡ Ok next
+    → read_at (run_content (m ∷ ms) at l) at ≡ Ok (m, next)
 first_back m ms at l next fits e =
     let k = put_content m at l in
     let s = run_content ms next k in
@@ -64,17 +62,17 @@ first_back m ms at l next fits e =
 Back : List Message → Message → Type 0
 Back ms none =
     (before at : ℕ) (l : List ℕ) (j : ℕ) → before + j < (run_answer before ms at l).written
-    → read_at (run_content ms at l) (at + j * 11) ≡ read.Record (get_or ms j none) (at + j * 11 + 11)
+    → read_at (run_content ms at l) (at + j * 11) ≡ Ok (get_or ms j none, at + j * 11 + 11)
 
 back_one : (m : Message) (ms : List Message) (none : Message) → m.number < 256 ^ 4 → Back ms none
     → (before at : ℕ) (l : List ℕ) (p : Put) → put_answer m at l ≡ p → (j : ℕ) → before + j < (run_answer before (m ∷ ms) at l).written
-    → read_at (run_content (m ∷ ms) at l) (at + j * 11) ≡ read.Record (get_or (m ∷ ms) j none) (at + j * 11 + 11)
+    → read_at (run_content (m ∷ ms) at l) (at + j * 11) ≡ Ok (get_or (m ∷ ms) j none, at + j * 11 + 11)
 unfolding Back
-back_one m ms none fits rest before at l (put.Refused refusal) e j h =
+back_one m ms none fits rest before at l (Err refusal) e j h =
     absurd (omega (arith, rw (ends_answer before m ms at l refusal e) at h))
-back_one m ms none fits rest before at l (put.Next next) e zero h =
-    rw (add-zero at) (first_back m ms at l next fits e ∙ ap (read.Record m) (accepted m at l next e).2)
-back_one m ms none fits rest before at l (put.Next next) e (suc j) h =
+back_one m ms none fits rest before at l (Ok next) e zero h =
+    rw (add-zero at) (first_back m ms at l next fits e ∙ ap (λ (n : ℕ). Ok (m, n)) (accepted m at l next e).2)
+back_one m ms none fits rest before at l (Ok next) e (suc j) h =
     let end = (accepted m at l next e).2 in
     let place : at + suc j * 11 ≡ next + j * 11 = omega arith in
     rw place
@@ -90,6 +88,6 @@ backs (m ∷ ms) none fits before at l j h =
 -- Each message of a run that was written is read where its turn came, eleven bytes after the one before it.
 pub run_back : (ms : List Message) (none : Message) → ((i : ℕ) → (get_or ms i none).number < 256 ^ 4) → (at : ℕ) (l : List ℕ) (j : ℕ)
     → j < (run_answer 0 ms at l).written
-    → read_at (run_content ms at l) (at + j * 11) ≡ read.Record (get_or ms j none) (at + j * 11 + 11)
+    → read_at (run_content ms at l) (at + j * 11) ≡ Ok (get_or ms j none, at + j * 11 + 11)
 unfolding Back
 run_back ms none fits at l j h = backs ms none fits 0 at l j (omega arith)

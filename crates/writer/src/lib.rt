@@ -1,9 +1,8 @@
 // The writer of the message record.
 #![tactic(auto)]
 
-mod number; // the four bytes of a number
 mod put; // one record
 mod run; // several records, one after another
 
-pub use put::{Put, put_at, put_record};
+pub use put::{put_at, put_record};
 pub use run::{Run, Written, put_run};

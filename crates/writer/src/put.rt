@@ -1,77 +1,48 @@
 // The writer: one record into what room is left.
-ghost use Rattle.std.specs.Prelude.{◌≡◌, ◌++◌, ◌≤◌, min, length, drop};
+ghost use Rattle.std.specs.Prelude.{◌≡◌};
 ghost use Rattle.writer.specs.Put.{bytes_of, put_answer, put_content, said_put};
 
-use crate::number::bytes_of;
 use record::{Message, allowed};
+use refusals::Refusal;
 
-// The place after the record, or the number of refusal.
-#[derive(Clone, Copy)]
-pub enum Put {
-    Next(usize),
-    Refused(u8),
-}
-
-fn record_of(m: Message) -> [u8; Message::LENGTH]
+// Kept: no From: a message and an array are no types of this crate, and `record`, whose message it is, does not write.
+fn bytes_of(m: Message) -> [u8; Message::LENGTH]
     ensures { result ≡ bytes_of m }
 {
-    let number = bytes_of(m.number);
+    let [n0, n1, n2, n3] = m.number.to_be_bytes();
     [
         Message::MARK_FIRST,
         Message::MARK_SECOND,
         m.kind,
         m.station,
-        number[0],
-        number[1],
-        number[2],
-        number[3],
+        n0,
+        n1,
+        n2,
+        n3,
         m.profile,
         m.mode,
         m.detail,
     ]
 }
 
-// The eleven bytes, into the front of a buffer that has the room.
-fn store(buf: &mut [u8], m: Message)
-    requires { 11 ≤ length buf.old }
-    ensures { buf.new ≡ bytes_of m ++ drop 11 buf.old }
-{
-    let bytes = record_of(m);
-    let mut i = 0;
-    while i < Message::LENGTH {
-        buf[i] = bytes[i];
-        i += 1;
-    }
-}
-
-// A record into the front of a buffer.
-pub fn put_record(buf: &mut [u8], m: Message) -> Put
+// A record into the front of a buffer: its length, or why it was not written.
+pub fn put_record(buf: &mut [u8], m: Message) -> Result<usize, Refusal>
     ensures { (said_put result ≡ said_put (put_answer m 0 buf.old)) × (buf.new ≡ put_content m 0 buf.old) }
 {
     if !allowed(m) {
-        return Put::Refused(Message::NOT_ALLOWED);
+        return Err(Refusal::NotAllowed);
     }
-    if buf.len() < Message::LENGTH {
-        return Put::Refused(Message::NO_ROOM);
-    }
-    store(&mut *buf, m);
-    Put::Next(Message::LENGTH)
+    let front = buf.first_chunk_mut().ok_or(Refusal::NoRoom)?;
+    *front = bytes_of(m);
+    Ok(Message::LENGTH)
 }
 
-// Where the room that is left begins: at the place, or at the end if the place is past it.
-fn room_from(at: usize, length: usize) -> usize
-    ensures { result ≡ min at length }
-{
-    if at <= length { at } else { length }
-}
-
-// A record at a place: what room is left there is lent on.
-pub fn put_at(buf: &mut [u8], at: usize, m: Message) -> Put
+// A record at a place, or at the end if the place is past it: what room is left there is lent on. It gives the place after the record.
+#[tactic(auto, using(crate::proofs::Said::said_put_injective, crate::proofs::Lent::lent_answer, crate::proofs::Lent::lent_content))]
+pub fn put_at(buf: &mut [u8], at: usize, m: Message) -> Result<usize, Refusal>
     ensures { (said_put result ≡ said_put (put_answer m at buf.old)) × (buf.new ≡ put_content m at buf.old) }
 {
-    let start = room_from(at, buf.len());
-    match put_record(&mut buf[start..], m) {
-        Put::Next(used) => Put::Next(start + used),
-        Put::Refused(refusal) => Put::Refused(refusal),
-    }
+    let start = at.min(buf.len());
+    let used = put_record(&mut buf[start..], m)?;
+    Ok(start + used)
 }

@@ -2,28 +2,15 @@
 use Rattle.std.proofs.Common.{◌≡◌, ℕ, ◌+◌, ◌-◌, suc, length, sym, ap, ◌∙◌, add-one, arith}
 use Rattle.record.proofs.Said.{said_read_injective}
 use Rattle.reader.specs.Reader.{passing}
-use Rattle.reader.proofs.Passing.{lies, passes, stops}
+use Rattle.reader.proofs.Passing.{lies, passes}
 use Rattle.reader.proofs.passed_from.Goals as goal
-
-pub returns-in-Refused : goal.returns-in-Refused
-returns-in-Refused c =
-    let s = c.args.s.now in
-    let l = c.loop-place in
-    let e = sym (said_read_injective _ _ c.in-Refused.ensures) in
-    sym (l.invariant.passed ∙ stops (length s - l.count) l.count s l.next _ e)
-
-pub loop-place-smaller : goal.loop-place-smaller
-loop-place-smaller c =
-    let e = sym (said_read_injective _ _ c.in-Record.ensures) in
-    let h = lies c.args.s.now c.loop-place.next _ _ e in
-    omega arith
 
 pub loop-place-preserved : goal.loop-place-preserved
 loop-place-preserved c =
     let s = c.args.s.now in
     let l = c.loop-place in
-    let place = c.in-Record.place in
-    let e = sym (said_read_injective _ _ c.in-Record.ensures) in
+    let place = c.in-Ok.place in
+    let e = sym (said_read_injective _ _ c.in-Ok.ensures) in
     let h = lies s l.next _ _ e in
     let left : length s - l.count ≡ suc (length s - (l.count + 1)) = omega arith in
     record {

@@ -1,4 +1,5 @@
-use mathlib.Core.Path.{◌∙◌}
+-- W, U and X are the modes that cover W.
+use Rattle.std.proofs.Common.{◌∙◌}
 use Rattle.modes.proofs.Lookup.{writing}
 use Rattle.modes.proofs.Mode.writes.Goals as goal
 

@@ -1,20 +1,8 @@
--- `late` answers the stations with a late mark, and nothing where no mark is there.
-use mathlib.Core.Path.{◌≡◌, sym, ◌∙◌}
-use lib.ListN.{length}
-use native.Mathlib.Omega.{arith}
-use borrow.Author.Rules.{rules}
-use Rattle.masks.proofs.Laws.{none_of}
-use Rattle.masks.proofs.Walk.{mapped_length}
-use Rattle.members.specs.Mark.{as_mark, is_marked, is_late}
-use Rattle.members.specs.declared.mark.Marked.{Marked}
-use Rattle.members.specs.declared.mark.Which.TheVariants.{Late}
-use Rattle.members.proofs.Words.{unmarked_test}
+-- Where no station has a mark, none is late.
+use Rattle.std.proofs.Common.{rules, sym, ◌∙◌}
+use Rattle.profiles.proofs.Under.{none_late}
 use Rattle.profiles.proofs.profile.Profile.late.Goals as goal
 
-pub returns : goal.returns
-returns c =
-    let a = c.args in
-    let marks = a.self.marks in
-    let l : length marks ≡ 16 = search (rules, mapped_length) in
-    let e = sym c.some_in.ensures ∙ c.if-some_in.false in
-    sym (none_of is_marked (λ (m : Marked). is_late a.answer a.now (as_mark m)) (unmarked_test (Late a.now a.answer)) 16 marks (omega arith) e)
+pub returns-then-not-any_in : goal.returns-then-not-any_in
+returns-then-not-any_in c =
+    none_late _ _ _ (sym c.any_in.ensures ∙ search rules)

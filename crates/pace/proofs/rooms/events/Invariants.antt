@@ -1,6 +1,0 @@
--- The events are counted.
-use Rattle.std.proofs.Common.{◌-◌}
-use Rattle.pace.proofs.rooms.events.Given as goal
-
-abbrev pub decreases-loop-n : goal.decreases-loop-n
-decreases-loop-n l = l.count - l.n

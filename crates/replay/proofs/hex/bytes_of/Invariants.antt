@@ -1,6 +1,0 @@
--- Each turn takes two digits.
-use Rattle.std.proofs.Common.{◌-◌}
-use Rattle.replay.proofs.hex.bytes_of.Given as goal
-
-abbrev pub decreases-loop-i : goal.decreases-loop-i
-decreases-loop-i l = l.count - l.i

@@ -1,6 +1,0 @@
--- Each byte is put once.
-use Rattle.std.proofs.Common.{◌-◌, length}
-use Rattle.replay.proofs.hex.put_hex.Given as goal
-
-abbrev pub decreases-loop-i : goal.decreases-loop-i
-decreases-loop-i l = length l.bytes - l.i
