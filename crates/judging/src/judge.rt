@@ -13,6 +13,7 @@ use requests::Request;
 use timing::settings::Settings;
 
 // What an event is about that nothing refuses: its station and its profile, the first where it names none.
+// Kept: the first and no Option, as `route_of` has it: where none is named nothing is looked at there but a member.
 // Kept: no ghost field that says they are in the arrays, since `judge` takes any route; `routed` says it of its own.
 #[derive(Clone, Copy, Debug, PartialEq, Eq)]
 pub struct Route {

@@ -21,6 +21,7 @@ pub fn event_of(m: Message) -> Option<Event>
 }
 
 // What stands in a run beyond its messages.
+// Kept: no Default, since it is no message that anything should begin with.
 fn none() -> Message
     ensures { result ≡ blank }
 {
@@ -89,6 +90,7 @@ fn with_demands(first: Message, stations: u64, profile: u8, wanted: u8) -> Run
     run
 }
 
+// Kept: beside `nack`, since each is one message of the record, and they share no more than the station and the number.
 fn ack(station: u8, number: u32, profile: u8, mode: u8, detail: u8) -> Message
     ensures { result ≡ message 6 station number profile mode detail }
 {

@@ -16,6 +16,7 @@ pub(crate) fn live_in(members: &Members) -> u64
 }
 
 // The set of those who have been timing out for the wait.
+// Kept: the reading and the time to be waited, here, in `late_in` and in what they call, are two plain numbers and no pair of their own.
 pub(crate) fn waited_in(members: &Members, reading: u64, wait: u64) -> u64
     ensures { result ≡ mask (members_with (is_waited wait reading) members.now) }
 {
