@@ -2,7 +2,7 @@
 ghost use Rattle.std.specs.Prelude.{◌≡◌, Bool};
 ghost use Rattle.masks.specs.Mask.{mask, any, those, change_under, some_under};
 ghost use Rattle.masks.specs.Walk.{Tells};
-ghost use Rattle.members.specs.Mark.{as_word, as_mark, is_marked, is_kept, is_late, drop_kept, demand, keep_mark, marks_with, remark};
+ghost use Rattle.members.specs.Mark.{as_word, as_mark, is_marked, is_kept, is_late, wipe_mark, drop_kept, demand, keep_mark, marks_with, remark};
 
 use timing::reading::Reading;
 use timing::settings::Settings;
@@ -112,7 +112,7 @@ impl From<Marked> for Mark {
 pub type Marks = [Marked; Settings::STATIONS];
 
 // The marks of a set of stations, changed.
-pub fn change_in<F: Fn(Mark) -> Mark>(mut marks: Marks, set: u64, change: F) -> Marks
+fn change_in<F: Fn(Mark) -> Mark>(mut marks: Marks, set: u64, change: F) -> Marks
     requires { F.IsAlwaysCallable change }
     ensures { (f : Mark → Mark) → Tells (F.post change) f → result ≡ change_under (remark f) set marks }
 {
@@ -143,9 +143,51 @@ pub fn any_in(marks: &Marks) -> bool
 }
 
 // The stations whose mark passes a test.
-pub fn marks_in<F: Fn(Mark) -> bool>(marks: Marks, test: F) -> u64
+fn marks_in<F: Fn(Mark) -> bool>(marks: Marks, test: F) -> u64
     requires { F.IsAlwaysCallable test }
     ensures { (f : Mark → Bool) → Tells (F.post test) f → result ≡ mask (marks_with f marks) }
 {
     masks::those(&marks, |stored| test(Mark::from(stored)))
+}
+
+// The stations with a kept mark.
+pub fn kept_in(marks: Marks) -> u64
+    ensures { result ≡ mask (marks_with is_kept marks) }
+{
+    marks_in(marks, |mark| mark.is_kept())
+}
+
+// The stations whose mode was demanded `answer` or more ticks ago, at the reading `now`.
+pub fn late_in(marks: Marks, now: u64, answer: u64) -> u64
+    ensures { result ≡ mask (marks_with (is_late answer now) marks) }
+{
+    marks_in(marks, |mark| mark.is_late(now, answer))
+}
+
+// The marks of a set of stations go.
+pub fn wiped(marks: Marks, set: u64) -> Marks
+    ensures { result ≡ change_under (remark wipe_mark) set marks }
+{
+    change_in(marks, set, |_| Mark::Unmarked)
+}
+
+// Their kept marks go.
+pub fn without_kept(marks: Marks, set: u64) -> Marks
+    ensures { result ≡ change_under (remark drop_kept) set marks }
+{
+    change_in(marks, set, |mark| mark.without_kept())
+}
+
+// Their modes are demanded.
+pub fn demanded(marks: Marks, set: u64, now: u64) -> Marks
+    ensures { result ≡ change_under (remark (demand now)) set marks }
+{
+    change_in(marks, set, |mark| mark.demanded(now))
+}
+
+// Their demanded marks become kept.
+pub fn kept(marks: Marks, set: u64) -> Marks
+    ensures { result ≡ change_under (remark keep_mark) set marks }
+{
+    change_in(marks, set, |mark| mark.kept())
 }

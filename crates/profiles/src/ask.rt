@@ -36,11 +36,11 @@ pub fn ask(profile: Profile, number: u8, live: u64, me: usize, asked: Mode, now:
             answer: Answer::Granted(number, wanted),
         };
     }
-    let kept = mark::marks_in(profile.marks, |mark| mark.is_kept());
+    let kept = mark::kept_in(profile.marks);
     if conflicts & kept != 0 {
         return Ruled {
             profile: Profile {
-                marks: mark::change_in(profile.marks, EVERYONE, |mark| mark.without_kept()),
+                marks: mark::without_kept(profile.marks, EVERYONE),
                 ..profile
             },
             answer: Answer::InUse(number),
@@ -49,7 +49,7 @@ pub fn ask(profile: Profile, number: u8, live: u64, me: usize, asked: Mode, now:
     let demanded = conflicts & live;
     Ruled {
         profile: Profile {
-            marks: mark::change_in(profile.marks, demanded, |mark| mark.demanded(now)),
+            marks: mark::demanded(profile.marks, demanded, now),
             ..profile
         },
         answer: Answer::Wait(number, wanted, demanded, masks::count(demanded)),

@@ -36,7 +36,7 @@ impl Profile {
     {
         Profile {
             row: row::wiped(self.row, set),
-            marks: mark::change_in(self.marks, set, |_| Mark::Unmarked),
+            marks: mark::wiped(self.marks, set),
         }
     }
 
@@ -45,7 +45,7 @@ impl Profile {
         ensures { result ≡ kept_under set self }
     {
         Profile {
-            marks: mark::change_in(self.marks, set, |mark| mark.kept()),
+            marks: mark::kept(self.marks, set),
             ..self
         }
     }
@@ -65,6 +65,6 @@ impl Profile {
         if !mark::any_in(&self.marks) {
             return 0;
         }
-        mark::marks_in(self.marks, |mark| mark.is_late(now, answer))
+        mark::late_in(self.marks, now, answer)
     }
 }

@@ -7,7 +7,6 @@ use lib.ListN.{length}
 use Rattle.masks.specs.Mask.{set_of}
 use Rattle.masks.proofs.Walk.{mapped_length}
 use Rattle.timing.specs.Limits.{most_stations}
-use Rattle.profiles.specs.Sets.{is_kept, drop_kept, demand}
 use borrow.Author.Rules.{rules}
 use Rattle.profiles.proofs.ask.ask.Goals as goal
 
@@ -20,8 +19,8 @@ returns-then-conflicts-eq0 c =
 pub returns-then-conflicts-kept-ne0 : goal.returns-then-conflicts-kept-ne0
 returns-then-conflicts-kept-ne0 c =
     let a = c.args in
-    let kept = c.marks_in-kept.ensures is_kept (search rules) in
-    let dropped = c.change_in.ensures drop_kept (search rules) in
+    let kept = c.kept_in-kept.ensures in
+    let dropped = c.without_kept.ensures in
     ruled_said _ _
     (in_use_way (set_of most_stations a.live) a.number a.now a.me a.asked.0 a.profile _ c.held.ensures _ c.join-wanted.ensures _ c.conflicts-conflicts.ensures c.if-conflicts-eq0.false _ kept c.if-conflicts-kept-ne0.true _ dropped)
 
@@ -29,7 +28,7 @@ pub returns : goal.returns
 returns c =
     let a = c.args in
     let n : length a.profile.row ≡ 16 = search (rules, mapped_length) in
-    let kept = c.marks_in-kept.ensures is_kept (search rules) in
-    let demanded = c.change_in-2.ensures (demand a.now) (search rules) in
+    let kept = c.kept_in-kept.ensures in
+    let demanded = c.demanded.ensures in
     ruled_said _ _
     (wait_way (set_of most_stations a.live) a.number a.now a.me a.asked.0 a.profile _ c.held.ensures _ c.join-wanted.ensures _ c.conflicts-conflicts.ensures c.if-conflicts-eq0.false _ kept a.live (ap (λ (n : ℕ). set_of n a.live) n) c.if-conflicts-kept-ne0.false _ demanded _ c.count.ensures)
