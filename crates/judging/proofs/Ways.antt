@@ -1,12 +1,12 @@
 -- Each way that the code goes as it judges an event, as the definitions have it; what the event is about is in the arrays.
 -- Assumes nothing.
-use Rattle.std.proofs.Common.{◌≡◌, ℕ, ◌<◌, Option, Some, None, Result, Ok, Err, refl, sym, ap, subst, ◌∙◌, arith}
+use Rattle.std.proofs.Common.{◌≡◌, ℕ, Option, Some, None, Result, Ok, Err, refl, sym, ap, subst, ◌∙◌, arith}
 use Rattle.std.specs.Prelude.{IfOk}
 use Rattle.std.specs.Option.{unwrap_or, MatchOption}
 use Rattle.masks.specs.Mask.{set_of}
 use Rattle.refusals.specs.Refusal.{Verdict}
 use Rattle.refusals.specs.declared.Refusal.{Refusal}
-use Rattle.timing.specs.Limits.{most_stations, most_profiles}
+use Rattle.timing.specs.Limits.{most_stations}
 use Rattle.timing.specs.declared.settings.Settings.{Settings}
 use Rattle.profiles.specs.declared.profile.Profile.{Profile}
 use Rattle.requests.specs.Request.{profile_of}
@@ -16,11 +16,8 @@ use Rattle.hearing.specs.Hear.{hear, told}
 use Rattle.hearing.proofs.Told.{heard_told}
 use Rattle.judging.specs.Event.{Request, Event, Message, Tick}
 use Rattle.judging.specs.Refusal.{refusal}
-use Rattle.judging.specs.Judge.{Route, Looked, After, Refused, Ticks, Leaves, route_to, route_by, route_of, heard_as, heard_for, judged_at, judged_for}
+use Rattle.judging.specs.Judge.{Route, Looked, After, Refused, Ticks, Leaves, route_to, route_by, route_of, Within, heard_as, heard_for, judged_at, judged_for}
 use Rattle.judging.proofs.Refusals.{in_arrays}
-
-abbrev pub Within : Route → Type 0
-Within r = (r.station < most_stations) × (r.place < most_profiles)
 
 module _ (z : Settings) (last now : ℕ) (e : Event) where
   pub route_within : IfOk (route_of z last now e) Within

@@ -1,11 +1,11 @@
 -- An event judged before anything is stored, on the values that have to be looked at.
 -- No rule stands here: the rules are `refusal` and `hear`.
-use Rattle.std.specs.Prelude.{Bool, true, false, cond, [], ℕ, Option, Some, Result, Ok, Err}
+use Rattle.std.specs.Prelude.{◌<◌, Bool, true, false, cond, [], ℕ, Option, Some, Result, Ok, Err}
 use Rattle.std.specs.Option.{unwrap_or, option_and}
 use Rattle.masks.specs.Mask.{mask, set_of}
 use Rattle.refusals.specs.Refusal.{number, Verdict}
 use Rattle.refusals.specs.declared.Refusal.{Refusal}
-use Rattle.timing.specs.Limits.{most_stations}
+use Rattle.timing.specs.Limits.{most_stations, most_profiles}
 use Rattle.timing.specs.declared.settings.Settings.{Settings}
 use Rattle.members.specs.declared.member.Member.{Member}
 use Rattle.profiles.specs.declared.profile.Profile.{Profile}
@@ -40,6 +40,15 @@ route_by (Err r) e = Err r
 
 unfoldable pub route_of : Settings → ℕ → ℕ → Event → Result Route Refusal
 route_of z last now e = route_by (refusal z last now e) e
+
+-- a route that is in the arrays, and an outcome that leaves something there alone: at its route, or nowhere
+abbrev pub Within : Route → Type 0
+Within r = (r.station < most_stations) × (r.place < most_profiles)
+
+abbrev pub LeavesWithin : Outcome → Type 0
+LeavesWithin (Refused r) = Unit {0}
+LeavesWithin Ticks = Unit {0}
+LeavesWithin (Leaves a) = Within a.route
 
 -- what has to be looked at
 abbrev pub needs_if : Bool → Bool → Needs

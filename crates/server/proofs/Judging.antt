@@ -4,12 +4,14 @@ use mathlib.Core.Path.{◌≡◌, refl, sym, ap, ◌∙◌}
 use mathlib.Core.Bool.{Bool, true, false, cond}
 use mathlib.Core.List.{List, [], map}
 use Prim.Native.Nat.{ℕ}
-use Rattle.std.proofs.Common.{Option, Some, None, Ok, Err}
+use Rattle.std.proofs.Common.{Option, Some, None, Result, Ok, Err}
+use Rattle.std.specs.Prelude.{IfOk}
 use Rattle.std.specs.Option.{unwrap_or}
 use native.Mathlib.Omega.{arith}
 use lib.ListN.{length, set}
 use lib.Seq.{set-get_or}
 use Rattle.refusals.specs.Refusal.{Verdict}
+use Rattle.refusals.specs.declared.Refusal.{Refusal}
 use Rattle.masks.specs.Mask.{Set, mask, set_of}
 use Rattle.masks.proofs.Laws.{set_mask, length_those}
 use Rattle.timing.specs.Limits.{most_stations}
@@ -23,13 +25,27 @@ use Rattle.hearing.specs.Hear.{hear}
 use Rattle.hearing.specs.Needs.{looks, asks}
 use Rattle.hearing.proofs.Needs.{over, unlooked, unasked}
 use Rattle.judging.specs.Refusal.{refusal}
-use Rattle.judging.specs.Judge.{route_to, route_by, route_of, needs_if, needed_for, heard_as, heard_for, judged_for}
+use Rattle.judging.specs.declared.judge.Route.{Route}
+use Rattle.judging.specs.Judge.{route_to, route_by, route_of, Within, LeavesWithin, needs_if, needed_for, heard_as, heard_for, judged_for}
 use Rattle.judging.proofs.Refusals.{settings_good}
+use Rattle.judging.proofs.Ways.{route_within}
 use Rattle.server.specs.State.{Member, Profile, Server, no_profile, empty_profile, member_at, profile_at}
 use Rattle.server.specs.Event.{Request, Event, Message, Tick}
 use Rattle.server.specs.Tick.{free, started_set, start}
 use Rattle.server.specs.Step.{Served, wiped_if, after_heard, at_reading, message, tick, if_good, step}
 use Rattle.server.specs.Settle.{profile_if, live_if, judge_at, judge_on, stored, settled}
+
+-- what is judged is stored at the route's station and place, so in the arrays
+within : (s : Server) (now : ℕ) (e : Event) (r : Result Route Refusal) → IfOk r Within → LeavesWithin (judge_at s now e r).outcome
+unfolding judged_for heard_for
+within s now (Message i k q) (Ok r) h = h
+within s now Tick (Ok r) h = tt
+within s now e (Err r) h = tt
+
+pub judged_within : (s : Server) (now : ℕ) (e : Event) → LeavesWithin (judge_on s now e).outcome
+unfolding judge_on
+judged_within s now e =
+    within s now e (route_of s.settings s.reading now e) (route_within s.settings s.reading now e)
 
 -- all profiles wiped of who is gone
 gone_wiped : (b : Bool) (i : ℕ) (xs : List Profile) → map (wiped_under (mask (cond b (only i) []))) xs ≡ wiped_if b i xs

@@ -1,6 +1,6 @@
 // An event, judged on a server that stays as it is.
-ghost use Rattle.std.specs.Prelude.{◌≡◌, ◌<◌};
-ghost use Rattle.timing.specs.Limits.{most_stations, most_profiles};
+ghost use Rattle.std.specs.Prelude.{◌≡◌};
+ghost use Rattle.judging.specs.Judge.{Within, LeavesWithin};
 ghost use Rattle.server.specs.Settle.{look_at, judge_on};
 
 use crate::event::Event;
@@ -11,7 +11,7 @@ use judging::judge::{Judged, Looked, Needs, Route};
 
 // As little of the server as the event needs.
 fn look(server: &Server, route: Route, event: Event) -> Looked
-    requires { (route.station < most_stations) × (route.place < most_profiles) }
+    requires { Within route }
     ensures { result ≡ look_at server.now event route }
 {
     let member = server.members[route.station];
@@ -31,10 +31,9 @@ fn look(server: &Server, route: Route, event: Event) -> Looked
     }
 }
 
-// Looks, and changes nothing.
-#[tactic(auto, unfolding(crate::specs::Settle::judge_on))]
+// Looks, and changes nothing. What a message leaves is in the arrays, so that it is stored where it belongs with no test.
 pub(crate) fn judge_in(server: &Server, reading: u64, event: Event) -> Judged
-    ensures { result ≡ judge_on server.now reading event }
+    ensures { (result ≡ judge_on server.now reading event) × LeavesWithin result.outcome }
 {
     let last = server.reading;
     let routed = judge::routed(server.settings, last, reading, event);

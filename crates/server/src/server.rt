@@ -2,6 +2,7 @@
 ghost use Rattle.std.specs.Prelude.{◌≡◌};
 ghost use Rattle.timing.specs.Settings.{wait, wait_answer};
 ghost use Rattle.profiles.specs.Said.{said};
+ghost use Rattle.judging.specs.Judge.{Within, LeavesWithin};
 ghost use Rattle.server.specs.Settle.{stored, settled};
 ghost use Rattle.server.specs.Step.{made, step};
 
@@ -40,18 +41,15 @@ pub struct Served {
     pub answer: Answer,
 }
 
-// Stores what a message leaves. Its station and its profile are in the arrays, or it would have been refused.
+// Stores what a message leaves, at its station and its profile: they are in the arrays, or it would have been refused.
 fn store(server: &mut Server, after: After) -> Answer
+    requires { Within after.route }
     ensures { (server.new ≡ stored server.old after) × (result ≡ after.answer) }
 {
     let station = after.route.station;
     let place = after.route.place;
-    if station < Settings::STATIONS {
-        server.members[station] = after.member;
-    }
-    if let Some(profile) = after.profile
-        && place < Settings::PROFILES
-    {
+    server.members[station] = after.member;
+    if let Some(profile) = after.profile {
         server.profiles[place] = profile;
     }
     sweep::wipe_in(&mut server.profiles, after.gone);
@@ -61,6 +59,7 @@ fn store(server: &mut Server, after: After) -> Answer
 // Stores what an event does. All that it needs to know stands in what was judged, but for a tick.
 #[tactic(auto, unfolding(crate::specs::Settle::settled))]
 fn settle(server: &mut Server, judged: Judged) -> Answer
+    requires { LeavesWithin judged.outcome }
     ensures { (server.new ≡ (settled (wait_answer server.old.settings) server.old judged).server) × (result ≡ (settled (wait_answer server.old.settings) server.old judged).answer) }
 {
     server.reading = judged.reading;
