@@ -41,7 +41,7 @@ route_by (Err r) e = Err r
 unfoldable pub route_of : Settings → ℕ → ℕ → Event → Result Route Refusal
 route_of z last now e = route_by (refusal z last now e) e
 
--- a route that is in the arrays, and an outcome that leaves something there alone: at its route, or nowhere
+-- a route in the arrays, and an outcome that leaves nothing, or something at such a route
 abbrev pub Within : Route → Type 0
 Within r = (r.station < most_stations) × (r.place < most_profiles)
 

@@ -1,4 +1,4 @@
--- An event judged over the little that it needs, and then stored, is the step.
+-- An event judged over the little that it needs, and then stored, is the step; it is stored in the arrays.
 -- Assumes nothing.
 use mathlib.Core.Path.{◌≡◌, refl, sym, ap, ◌∙◌}
 use mathlib.Core.Bool.{Bool, true, false, cond}
@@ -35,17 +35,18 @@ use Rattle.server.specs.Tick.{free, started_set, start}
 use Rattle.server.specs.Step.{Served, wiped_if, after_heard, at_reading, message, tick, if_good, step}
 use Rattle.server.specs.Settle.{profile_if, live_if, judge_at, judge_on, stored, settled}
 
--- what is judged is stored at the route's station and place, so in the arrays
-within : (s : Server) (now : ℕ) (e : Event) (r : Result Route Refusal) → IfOk r Within → LeavesWithin (judge_at s now e r).outcome
+-- what is left is at the route that was judged
+at_route : (s : Server) (now : ℕ) (e : Event) (r : Result Route Refusal) → IfOk r Within → LeavesWithin (judge_at s now e r).outcome
 unfolding judged_for heard_for
-within s now (Message i k q) (Ok r) h = h
-within s now Tick (Ok r) h = tt
-within s now e (Err r) h = tt
+at_route s now (Message i k q) (Ok r) h = h
+at_route s now Tick (Ok r) h = tt
+at_route s now e (Err r) h = tt
 
+-- so what is judged of any event, on any server and at any reading, is stored at a station and a profile of the arrays
 pub judged_within : (s : Server) (now : ℕ) (e : Event) → LeavesWithin (judge_on s now e).outcome
 unfolding judge_on
 judged_within s now e =
-    within s now e (route_of s.settings s.reading now e) (route_within s.settings s.reading now e)
+    at_route s now e (route_of s.settings s.reading now e) (route_within s.settings s.reading now e)
 
 -- all profiles wiped of who is gone
 gone_wiped : (b : Bool) (i : ℕ) (xs : List Profile) → map (wiped_under (mask (cond b (only i) []))) xs ≡ wiped_if b i xs

@@ -31,7 +31,7 @@ fn look(server: &Server, route: Route, event: Event) -> Looked
     }
 }
 
-// Looks, and changes nothing. What a message leaves is in the arrays, so that it is stored where it belongs with no test.
+// Looks, and changes nothing. What a message leaves is at a station and a profile of the arrays, so nothing is tested as it is stored.
 pub(crate) fn judge_in(server: &Server, reading: u64, event: Event) -> Judged
     ensures { (result ≡ judge_on server.now reading event) × LeavesWithin result.outcome }
 {
