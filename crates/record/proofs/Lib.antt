@@ -1,4 +1,5 @@
 pub mod BigEndian
+pub mod Ways
 pub mod Short
 pub mod Told
 pub mod Said

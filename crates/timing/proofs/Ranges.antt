@@ -1,10 +1,11 @@
 -- Settings in range, as facts about their numbers.
 -- Assumes nothing.
-use Rattle.std.proofs.Common.{◌≡◌, ℕ, ◌<◌, ◌≤◌, Bool, true, false, cond, ◌&&◌, leb, sym, refl, ap, arith, le-leb, leb-true, Ok, Err}
+use Rattle.std.proofs.Common.{◌≡◌, ℕ, ◌<◌, ◌≤◌, Bool, true, false, cond, ◌&&◌, leb, sym, refl, ap, ◌∙◌, arith, le-leb, leb-true, Ok, Err}
 use mathlib.Core.Bool.{and-eq-true_iff}
 use Rattle.timing.specs.Limits.{lease_shortest, lease_longest, rate_largest, answer_longest, most_stations, most_profiles}
 use Rattle.timing.specs.Settings.{Settings, lease, within, lengths_good, rate_good, counts_good, in_range, settings_refusal, lease_checked}
 use Rattle.refusals.proofs.Choice.{past_unless}
+use Rattle.refusals.specs.Refusal.{Verdict}
 use Rattle.refusals.specs.declared.Refusal.TheVariants as refusal
 
 pub record Lengths (z : Settings) : Type 0 where
@@ -114,6 +115,13 @@ module _ (z : Settings) where
   pub good : settings_refusal z ≡ Ok tt → in_range z ≡ true
   good e = (past_unless (in_range z) (Ok tt) refusal.Settings e).0
 
+  pub bad : (v : Verdict) → v ≡ settings_refusal z → (v ≡ Ok tt → ⊥) → in_range z ≡ false
+  bad v e h = by_test (in_range z) refl
+    where
+      by_test : (t : Bool) → in_range z ≡ t → in_range z ≡ false
+      by_test true q = absurd (h (e ∙ ap (λ (t : Bool). cond t (Ok tt) (Err refusal.Settings)) q))
+      by_test false q = q
+
   pub lease_known : (l : ℕ) → lease_checked z ≡ Ok l → (in_range z ≡ true) × (l ≡ lease z)
   lease_known l e = by_test (in_range z) refl
     where
@@ -121,5 +129,15 @@ module _ (z : Settings) where
       by_test true q = grind arith
       by_test false q = grind arith
 
-  pub answer_good : (x : ℕ) → in_range z ≡ true → Ok x ≡ cond (in_range z) (Ok x) (Err refusal.Settings)
-  answer_good x e = sym (ap (λ (t : Bool). cond t (Ok x) (Err refusal.Settings)) e)
+  -- the lease and the wait, by the test: 0 where the settings are out of range, and refusal 1 where they are checked
+  pub answer_bad : (x : ℕ) → in_range z ≡ false → 0 ≡ cond (in_range z) x 0
+  answer_bad x e = sym (ap (λ (t : Bool). cond t x 0) e)
+
+  pub answer_good : (x : ℕ) → in_range z ≡ true → x ≡ cond (in_range z) x 0
+  answer_good x e = sym (ap (λ (t : Bool). cond t x 0) e)
+
+  pub checked_bad : (x : ℕ) → in_range z ≡ false → Err refusal.Settings ≡ cond (in_range z) (Ok x) (Err refusal.Settings)
+  checked_bad x e = sym (ap (λ (t : Bool). cond t (Ok x) (Err refusal.Settings)) e)
+
+  pub checked_good : (x : ℕ) → in_range z ≡ true → Ok x ≡ cond (in_range z) (Ok x) (Err refusal.Settings)
+  checked_good x e = sym (ap (λ (t : Bool). cond t (Ok x) (Err refusal.Settings)) e)

@@ -2,7 +2,7 @@
 use Rattle.std.proofs.Common.{arith, ◌∙◌, sym}
 use Rattle.timing.specs.Settings.{wait}
 use Rattle.timing.proofs.Wait.{lengthened_fits, dividend_fits, wait_fits}
-use Rattle.timing.proofs.Ranges.{ranges, lease_known, answer_good}
+use Rattle.timing.proofs.Ranges.{ranges, lease_known, checked_good}
 use Rattle.timing.proofs.settings.Settings.try_wait.Goals as goal
 
 pub overflow_add-result : goal.overflow_add-result
@@ -40,4 +40,4 @@ pub returns : goal.returns
 unfolding wait
 returns c =
     let k = lease_known _ _ (sym c.try_lease.ensures ∙ c.in_ok-lease.was) in
-    rw k.1 (answer_good _ _ k.0)
+    rw k.1 (checked_good _ _ k.0)
