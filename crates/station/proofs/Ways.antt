@@ -1,23 +1,27 @@
 -- Each way that the code goes through a step or a question, as its definition has it.
 -- Assumes nothing.
 use mathlib.Core.Path.{◌≡◌, refl, sym, ap, ◌∙◌}
-use mathlib.Core.Bool.{true}
-use Prim.Native.Nat.{ℕ}
+use mathlib.Core.Bool.{Bool, true, false, cond, ◌&&◌, not}
+use Prim.Native.Nat.{ℕ, zero, suc, ◌+◌, ◌≤◌}
 use lib.Dec.{ltb}
-use Rattle.std.proofs.Common.{Option, Result, Ok, Err, arith}
+use Rattle.std.proofs.Common.{Option, Result, Ok, Err, Some, None, arith}
 use Rattle.refusals.specs.Refusal.{Verdict}
 use Rattle.refusals.specs.declared.Refusal.{Refusal}
 use Rattle.refusals.proofs.Choice.{past_if, past_unless, or_ok}
-use Rattle.modes.specs.Modes.{covers}
+use Rattle.modes.specs.Modes.{is_mode, covers}
 use Rattle.timing.specs.declared.settings.Phase.{Phase}
+use Rattle.timing.specs.declared.settings.Phase.TheVariants.{First, Second, Third, Fourth}
 use Rattle.timing.specs.declared.settings.Settings.{Settings}
-use Rattle.timing.specs.Settings.{lease, in_range, lease_checked}
+use Rattle.timing.specs.Settings.{lease, in_range, lease_answer, lease_checked}
+use Rattle.timing.specs.Phase.{phase_number}
+use Rattle.timing.specs.Reading.{passed}
+use Rattle.timing.proofs.Choice.{both, below_not}
 use Rattle.station.specs.Event.{Request, Hello, KeepAlive, Ask, Release, Keep, Sent, Event, Send, Begin, Edit, End, WriteOut, Restart, Acked, Nacked, Demand, Hold, Standing, Stage}
 use Rattle.holds.specs.Stage.{phase_said, stage_at}
 use Rattle.room.specs.Refusal.{own_refusal, refusal, use_refusal}
 use Rattle.room.specs.Rules.{last_number, number_refusal, release_refusal, started_refusal, sending_refusal, send_refusal, begin_refusal, end_refusal, event_forbids}
 use Rattle.station.specs.Effect.{standing_after, sent_at, start_after, last_after, waiting_after, number_free, Answer}
-use Rattle.station.specs.Station.{Station, lease_of, refusal_of, stepped, if_good, step, phase_of}
+use Rattle.station.specs.Station.{Station, lease_of, refusal_of, stepped, if_good, step, phase_of, if_asked, usable, if_use, hold_at, may_use}
 use Rattle.station.specs.Parts.{Parts, hold_change, hold_free, answer_on, lease_if, parts_forbid, parts_after, if_free, outcome_of}
 use Rattle.station.specs.declared.event.Answer.TheVariants as answer
 
@@ -98,14 +102,17 @@ pub good_asked : (z : Settings) (own last now p : ℕ) → use_refusal z own las
 unfolding use_refusal
 good_asked z own last now p h = own_good z own (or_ok _ _ h).0
 
+pub lease_is : (z : Settings) → in_range z ≡ true → lease_answer z ≡ lease z
+lease_is z e = ap (λ (t : Bool). cond t (lease z) 0) e
+
 -- so the code finds the lease, or the refusal of 1 to 6
-pub lease_is : (z : Settings) → in_range z ≡ true → lease_checked z ≡ Ok (lease z)
-lease_is z e = rw e refl
+pub lease_is_checked : (z : Settings) → in_range z ≡ true → lease_checked z ≡ Ok (lease z)
+lease_is_checked z e = rw e refl
 
 pub lease_good : (z : Settings) (own last now : ℕ) (e : Event) → refusal z own last now e ≡ Ok tt
     → lease_checked z ≡ lease_if (refusal z own last now e) z
 lease_good z own last now e h =
-    lease_is z (good_settings z own last now e h) ∙ ap (λ (v : Verdict). lease_if v z) (sym h)
+    lease_is_checked z (good_settings z own last now e h) ∙ ap (λ (v : Verdict). lease_if v z) (sym h)
 
 lease_refused : (v : Verdict) (z : Settings) (r : Refusal) → lease_if v z ≡ Err r → v ≡ Err r
 lease_refused (Ok u) z r h = grind arith
@@ -127,3 +134,56 @@ module _ (s : Station) (now : ℕ) (e : Event) (f : Result ℕ Refusal) (d : f �
 -- a phase back from its number
 pub phase_back : (f : Option Phase) → phase_of (phase_said f) ≡ f
 phase_back f = grind arith
+
+-- the phase asked for; v is what the code finds of 1 to 6
+module _ (v n : Verdict) (d : v ≡ n) where
+  pub phase_refused : (m : ℕ) (r : Refusal) → v ≡ Err r → Err r ≡ if_asked n m
+  phase_refused m r h = ap (λ (v : Verdict). if_asked v m) (sym h ∙ d)
+
+  module _ (h : v ≡ Ok tt) (k m : ℕ) (e : k ≡ m) where
+    pub phase_out : k ≡ 0 → Ok None ≡ if_asked n m
+    phase_out z = both if_asked (sym h ∙ d) (sym z ∙ e)
+
+    -- the phase that has that number
+    pub phase_in : (k ≡ 0 → ⊥) → (f : Phase) × (Ok (Some f) ≡ if_asked n m) × (k ≤ 4 → phase_number f ≡ k)
+    phase_in g =
+        let p = by_number k g in
+        (p.0, p.1 ∙ both if_asked (sym h ∙ d) e, p.2)
+      where
+        by_number : (i : ℕ) → (i ≡ 0 → ⊥) → (f : Phase) × (Ok (Some f) ≡ if_asked (Ok tt) i) × (i ≤ 4 → phase_number f ≡ i)
+        by_number zero g = absurd (g refl)
+        by_number (suc zero) g = (First, refl, λ l. refl)
+        by_number (suc (suc zero)) g = (Second, refl, λ l. refl)
+        by_number (suc (suc (suc zero))) g = (Third, refl, λ l. refl)
+        by_number (suc (suc (suc (suc i)))) g = (Fourth, refl, λ l. omega arith)
+
+-- the use asked for; t is whether a mode is held, o whether the lease has run
+module _ (s : Station) (now p : ℕ) (v : Verdict) (d : v ≡ use_refusal s.settings s.number s.reading now p) where
+  pub use_refused : (r : Refusal) → v ≡ Err r → Err r ≡ may_use s now p
+  unfolding may_use
+  use_refused r h = ap (λ (v : Verdict). if_use v (usable s now p)) (sym h ∙ d)
+
+  module _ (h : v ≡ Ok tt) (k : Hold) (f : k ≡ hold_at s p) (t : Bool) (e : t ≡ is_mode k.mode.0) where
+    answered : (b : Bool) → usable s now p ≡ b → Ok b ≡ may_use s now p
+    unfolding may_use
+    answered b g = both if_use (sym h ∙ d) (sym g)
+
+    held : (b : Bool) → t ≡ b → usable s now p ≡ (b && ltb now (s.start + lease_of s))
+    held b g = ap (λ (b : Bool). b && ltb now (s.start + lease_of s)) (sym (e ∙ ap (λ (k : Hold). is_mode k.mode.0) f) ∙ g)
+
+    pub use_unheld : t ≡ false → Ok false ≡ may_use s now p
+    use_unheld g = answered false (held false g)
+
+    module _ (g : t ≡ true) (l : ℕ) (c : l ≡ lease_answer s.settings) (o : Bool) (w : o ≡ passed s.start l now) where
+      by_lease : usable s now p ≡ not o
+      by_lease =
+          let z : in_range s.settings ≡ true = good_asked s.settings s.number s.reading now p (sym d ∙ h) in
+          held true g
+          ∙ below_not now (s.start + lease_of s)
+          ∙ ap not (sym (w ∙ ap (λ (l : ℕ). passed s.start l now) (c ∙ lease_is s.settings z)))
+
+      pub use_over : o ≡ true → Ok false ≡ may_use s now p
+      use_over b = answered false (by_lease ∙ ap not b)
+
+      pub use_leased : o ≡ false → Ok true ≡ may_use s now p
+      use_leased b = answered true (by_lease ∙ ap not b)
