@@ -3,7 +3,7 @@
 use mathlib.Core.Path.{◌≡◌, refl, sym, ap, ◌∙◌}
 use mathlib.Core.Bool.{Bool, true, false, cond, ◌&&◌, ◌||◌}
 use mathlib.Core.List.{List, [], ◌∷◌}
-use Prim.Native.Nat.{ℕ, zero, suc, ◌+◌, ◌*◌, ◌/◌, ◌%◌, ◌^◌, ◌<◌, ◌≤◌, min, max}
+use Prim.Native.Nat.{ℕ, zero, suc, ◌+◌, ◌-◌, ◌*◌, ◌/◌, ◌%◌, ◌^◌, ◌<◌, ◌≤◌, min, max}
 use native.Mathlib.Nat.{pow-suc, max-zero}
 use native.Mathlib.Omega.{arith}
 use native.Mathlib.Numerals.{add-one}
@@ -12,7 +12,8 @@ use borrow.Author.Tests.{eqb-true, eqb-false}
 use lib.Bits.{bit_and, bit_or, and_step, or_step, and_zero_l, and_zero_r, or_zero_l, or_zero_r}
 use lib.Pow.{pow_mono}
 use lib.Count.{ones, ones_in, ones_step, count_trailing_zeros}
-use lib.ListN.{length, get_or, take}
+use lib.ListN.{length, get_or, take, drop, replicate, length-drop, drop_of_length-le}
+use lib.Seq.{drop-cons}
 use Rattle.masks.specs.Mask.{Set, bit_of, mask, count, any, both, either, set_of, those_at, those, change_in, change_under, some_under}
 
 pub bit_small : (b : Bool) → bit_of b < 2
@@ -132,6 +133,34 @@ first_up_to (suc k) (suc j) n h = rw (rest, lowest, first_up_to k j (n / 2) (ome
     lowest = omega (arith, digits)
 
 module _ {A : Type 0} where
+  step_at_lem : (f : ℕ → A → Bool) (d : A) (xs : List A) (k j : ℕ) → j < length xs
+      → mask (those_at f k (drop j xs)) ≡ mask (those_at f (suc k) (drop (suc j) xs)) * 2 + bit_of (f k (get_or xs j d))
+  step_at_lem f d xs k j h = rw (drop-cons xs j d h)
+
+  step : (f : A → Bool) (d : A) (xs : List A) (j : ℕ) → j < length xs
+      → mask (those f (drop j xs)) ≡ mask (those f (drop (suc j) xs)) * 2 + bit_of (f (get_or xs j d))
+  step f d xs j h = rw (drop-cons xs j d h)
+
+  -- a loop that goes down and doubles: the mask of one element more
+  pub turn_at : (f : ℕ → A → Bool) (d : A) (xs : List A) (i : ℕ) → 0 < i → i ≤ length xs
+      → mask (those_at f i (drop i xs)) * 2 + bit_of (f (i - 1) (get_or xs (i - 1) d)) ≡ mask (those_at f (i - 1) (drop (i - 1) xs))
+  turn_at f d xs i h l =
+      let e : suc (i - 1) ≡ i = omega arith in
+      sym (step_at_lem f d xs (i - 1) (i - 1) (omega arith) ∙ rw e)
+
+  pub turn : (f : A → Bool) (d : A) (xs : List A) (i : ℕ) → 0 < i → i ≤ length xs
+      → mask (those f (drop i xs)) * 2 + bit_of (f (get_or xs (i - 1) d)) ≡ mask (those f (drop (i - 1) xs))
+  turn f d xs i h l =
+      let e : suc (i - 1) ≡ i = omega arith in
+      sym (step f d xs (i - 1) (omega arith) ∙ rw e)
+
+  -- it starts at nothing, and leaves a bit free until it is done
+  pub none_at : (f : ℕ → A → Bool) (xs : List A) (k n : ℕ) → length xs ≤ n → 0 ≡ mask (those_at f k (drop n xs))
+  none_at f xs k n h = sym (ap (λ (ys : List A). mask (those_at f k ys)) (drop_of_length-le xs h))
+
+  pub none : (f : A → Bool) (xs : List A) (n : ℕ) → length xs ≤ n → 0 ≡ mask (those f (drop n xs))
+  none f xs n h = sym (ap (λ (ys : List A). mask (those f ys)) (drop_of_length-le xs h))
+
   pub length_at : (f : ℕ → A → Bool) (k : ℕ) (xs : List A) → length (those_at f k xs) ≡ length xs
   length_at f k [] = refl
   length_at f k (x ∷ xs) = ap suc (length_at f (suc k) xs)
@@ -139,6 +168,12 @@ module _ {A : Type 0} where
   pub length_those : (f : A → Bool) (xs : List A) → length (those f xs) ≡ length xs
   length_those f [] = refl
   length_those f (x ∷ xs) = ap suc (length_those f xs)
+
+  pub room_at : (f : ℕ → A → Bool) (xs : List A) (k i : ℕ) → 0 < i → length xs ≤ 64 → mask (those_at f k (drop i xs)) < 2 ^ 63
+  room_at f xs k i h l = mask_fits 63 (those_at f k (drop i xs)) (omega (arith, length_at f k (drop i xs), length-drop i xs))
+
+  pub room : (f : A → Bool) (xs : List A) (i : ℕ) → 0 < i → length xs ≤ 64 → mask (those f (drop i xs)) < 2 ^ 63
+  room f xs i h l = mask_fits 63 (those f (drop i xs)) (omega (arith, length_those f (drop i xs), length-drop i xs))
 
   -- a change by the mask is the change in the set
   pub under_in : (f : A → A) (s : Set) (xs : List A) → change_under f (mask s) xs ≡ change_in f s xs
@@ -169,6 +204,20 @@ module _ {A : Type 0} where
           → mask (those g xs) * 2 + bit_of (g x) ≡ 0
       by_test true d h rest = let z : ◌≡◌ {A = ℕ} 0 1 = cc in absurd (omega arith)
       by_test false d h rest = rw (out x d, rest h)
+
+  -- where nobody under the mask of all passes the test, nobody passes one that passes no more
+  pub none_of_all : (test g : A → Bool) → ((x : A) → test x ≡ false → g x ≡ false) → (n : ℕ) (xs : List A) → length xs ≤ n
+      → some_under test (mask (replicate n true)) xs ≡ false → mask (those g xs) ≡ 0
+  none_of_all test g out n [] l e = refl
+  none_of_all test g out zero (x ∷ xs) l e = absurd (omega arith)
+  none_of_all test g out (suc n) (x ∷ xs) l e =
+      let h = rw (odd_test true (replicate n true), half true (replicate n true)) at e in
+      by_test (test x) (some_under test (mask (replicate n true)) xs) refl h (none_of_all test g out n xs (omega arith))
+    where
+      by_test : (t s : Bool) → test x ≡ t → (t || s) ≡ false → (s ≡ false → mask (those g xs) ≡ 0)
+          → mask (those g xs) * 2 + bit_of (g x) ≡ 0
+      by_test true s d h rest = let z : ◌≡◌ {A = ℕ} 0 1 = cc in absurd (omega arith)
+      by_test false s d h rest = rw (out x d, rest h)
 
   -- a loop that goes up: what it has looked at, and one more
   pub mask_more : (f : ℕ → A → Bool) (d : A) (k i : ℕ) (xs : List A) → i < length xs
