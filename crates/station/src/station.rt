@@ -191,8 +191,7 @@ impl Station {
         ensures { said_use result ≡ said_use (may_use self reading profile) }
     {
         self.asking(reading).check_use(profile)?;
-        let lease = self.settings.try_lease()?;
         let held = hold::hold_at(self.holds, profile).mode;
-        Ok(held.is_mode() && !Reading::passed(self.start, lease, reading))
+        Ok(held.is_mode() && !Reading::passed(self.start, self.settings.lease(), reading))
     }
 }
