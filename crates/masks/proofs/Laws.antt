@@ -14,6 +14,7 @@ use lib.Pow.{pow_mono}
 use lib.Count.{ones, ones_in, ones_step, count_trailing_zeros}
 use lib.ListN.{length, get_or, take, drop, replicate, length-drop, drop_of_length-le}
 use lib.Seq.{drop-cons}
+use Rattle.std.proofs.lemmas.List.{take_all, take_min}
 use Rattle.masks.specs.Mask.{Set, bit_of, mask, count, any, both, either, set_of, those_at, those, change_in, change_under, some_under}
 
 pub bit_small : (b : Bool) → bit_of b < 2
@@ -238,6 +239,12 @@ module _ {A : Type 0} where
       let more : mask (those_at f 0 (take (suc i) xs)) ≡ mask (those_at f 0 (take i xs)) + bit_of (f i x) * 2 ^ i
       = mask_more f x 0 i xs h ∙ rw (z, sym g) in
       q ∙ rw (k, e, add-one, more)
+
+  -- a loop that stops at the n-th has gone over the first n, also where the list ends before
+  pub gone_over : (xs : List A) (n m i : ℕ) → m ≡ min (length xs) n → length (take m xs) ≤ i → take i (take m xs) ≡ take n xs
+  gone_over xs n m i e h =
+      let least : m ≡ min n (length xs) = omega arith in
+      take_all i (take m xs) h ∙ ap (λ (k : ℕ). take k xs) least ∙ take_min n xs
 
   pub same_at : (f : A → Bool) (k : ℕ) (xs : List A) → those_at (λ (i : ℕ) (x : A). f x) k xs ≡ those f xs
   same_at f k [] = refl

@@ -2,7 +2,7 @@
 // Kept: a mask is a plain number and no type of its own, since the answers of both engines carry it so.
 #![tactic(auto)]
 
-ghost use Rattle.std.specs.Prelude.{◌≡◌, ◌≤◌, length, Bool, ℕ};
+ghost use Rattle.std.specs.Prelude.{◌≡◌, ◌≤◌, length, take, Bool, ℕ};
 ghost use Rattle.std.specs.Int.Count.{ones, count_trailing_zeros};
 ghost use Rattle.masks.specs.Mask.{mask, those, those_at, change_under, some_under};
 ghost use Rattle.masks.specs.Walk.{Tells, TellsAt};
@@ -25,12 +25,14 @@ pub fn first(stations: u64) -> usize
     u64::trailing_zeros(stations | LAST) as usize
 }
 
-// The set of those that pass a test, which is told each one's place too.
+// The set of those that pass a test, which is told each one's place too. A mask has 64 bits: those behind the first 64 are
+// passed over.
 pub fn those_at<T: Copy, F: Fn(usize, T) -> bool>(items: &[T], test: F) -> u64
-    requires callable { F.IsAlwaysCallable test }
-    requires fits { length items.now ≤ 64 }
-    ensures { (f : ℕ → T → Bool) → TellsAt (F.post test) f → result ≡ mask (those_at f 0 items.now) }
+    requires { F.IsAlwaysCallable test }
+    ensures first { (f : ℕ → T → Bool) → TellsAt (F.post test) f → result ≡ mask (those_at f 0 (take 64 items.now)) }
+    ensures fits { length items.now ≤ 64 → (f : ℕ → T → Bool) → TellsAt (F.post test) f → result ≡ mask (those_at f 0 items.now) }
 {
+    let items = &items[..items.len().min(u64::BITS as usize)];
     let mut mask: u64 = 0;
     for (i, item) in items.iter().enumerate() {
         if test(i, *item) {
@@ -40,11 +42,11 @@ pub fn those_at<T: Copy, F: Fn(usize, T) -> bool>(items: &[T], test: F) -> u64
     mask
 }
 
-// The set of those that pass a test.
+// The set of those that pass a test, among the first 64.
 pub fn those<T: Copy, F: Fn(T) -> bool>(items: &[T], test: F) -> u64
-    requires callable { F.IsAlwaysCallable test }
-    requires fits { length items.now ≤ 64 }
-    ensures { (f : T → Bool) → Tells (F.post test) f → result ≡ mask (those f items.now) }
+    requires { F.IsAlwaysCallable test }
+    ensures first { (f : T → Bool) → Tells (F.post test) f → result ≡ mask (those f (take 64 items.now)) }
+    ensures fits { length items.now ≤ 64 → (f : T → Bool) → Tells (F.post test) f → result ≡ mask (those f items.now) }
 {
     those_at(items, |_, item| test(item))
 }
