@@ -1,5 +1,6 @@
 -- The paper's 'Numbers of refusal'.
-use Rattle.std.specs.Prelude.{ℕ, Result, Ok, Err}
+use Rattle.std.specs.Prelude.{ℕ, List, ◌++◌, Result, Ok, Err, codes}
+use Rattle.std.specs.Fmt.{decimal}
 use Rattle.refusals.specs.declared.Refusal.{Refusal}
 use Rattle.refusals.specs.declared.Refusal.TheVariants.{Settings, Station, Profile, Mode, AboveLimit, BelowLast, StaleNumber, Out, PhaseForbids, ModeForbids, OperationCount, StillUsed, NumbersUsed, NotAwaited, TooShort, BadMark, BadKind, NotAllowed, NoRoom}
 
@@ -23,6 +24,10 @@ number BadMark = 16
 number BadKind = 17
 number NotAllowed = 18
 number NoRoom = 19
+
+-- how a refusal is printed: the word, a space and the paper's number
+abbrev pub printed : Refusal → List ℕ
+printed refusal = codes "refused " ++ decimal (number refusal)
 
 -- what a rule says: nothing against it, or the refusal
 abbrev pub Verdict : Type 0

@@ -1,8 +1,8 @@
 // Why the engines, the reader and the writer refuse what they are given: the paper's table of refusals.
 #![tactic(auto)]
 
-ghost use Rattle.std.specs.Prelude.{◌≡◌, cond, Ok, Err};
-ghost use Rattle.refusals.specs.Refusal.{number};
+ghost use Rattle.std.specs.Prelude.{◌≡◌, cond, Ok, Err, Some};
+ghost use Rattle.refusals.specs.Refusal.{number, printed};
 
 use std::error::Error;
 use std::fmt;
@@ -71,7 +71,10 @@ pub fn unless(holds: bool, refusal: Refusal) -> Result<(), Refusal>
     if holds { Ok(()) } else { Err(refusal) }
 }
 
+// Printed by its number, as the paper speaks of it.
 impl fmt::Display for Refusal {
+    ghost output = { λ refusal. Some (printed refusal) };
+
     fn fmt<W: fmt::Write>(&self, f: &mut fmt::Formatter<W>) -> fmt::Result {
         write!(f, "refused {}", self.number())
     }
