@@ -30,11 +30,12 @@ nonzero_div-result c =
     let k = lease_known _ _ (sym c.try_lease.ensures ∙ c.in_ok-lease.was) in
     let r = ranges _ k.0 in omega arith
 
+-- By arithmetic from the wait's own bound, so that a wrong wait that is no larger is refused for what it answers, and not here.
 pub overflow_add-result-3 : goal.overflow_add-result-3
 unfolding wait
 overflow_add-result-3 c =
     let k = lease_known _ _ (sym c.try_lease.ensures ∙ c.in_ok-lease.was) in
-    rw k.1 (wait_fits _ k.0)
+    rw k.1 (record { fits = omega (arith, (wait_fits _ k.0).fits) })
 
 pub returns : goal.returns
 unfolding wait
