@@ -10,12 +10,12 @@ pub(crate) const MOST: usize = 64;
 pub(crate) type Bytes = ArrayVec<u8, MOST>;
 
 // The bytes of a word.
-pub(crate) fn bytes_of(word: &str) -> Option<Bytes> {
+pub(crate) fn bytes_of(word: &[u8]) -> Option<Bytes> {
     let mut bytes = Bytes::new();
-    if word == "-" {
+    if word == b"-".as_slice() {
         return Some(bytes);
     }
-    let (pairs, rest) = word.as_bytes().as_chunks::<2>();
+    let (pairs, rest) = word.as_chunks::<2>();
     if pairs.is_empty() || !rest.is_empty() {
         return None;
     }
@@ -37,17 +37,29 @@ fn digit(b: u8) -> Option<u8>
     }
 }
 
+const DIGITS: [u8; 16] = *b"0123456789ABCDEF";
+
+// Two for each byte.
+const MOST_DIGITS: usize = 128;
+
+// At most as many bytes as a line holds.
 #[derive(Clone, Copy)]
 pub(crate) struct Hex<'a>(pub(crate) &'a [u8]);
 
 impl fmt::Display for Hex<'_> {
+    // Kept: all digits in one text, by hand, since a `write!` for each byte takes four times as long.
     fn fmt<W: fmt::Write>(&self, f: &mut fmt::Formatter<W>) -> fmt::Result {
         if self.0.is_empty() {
             return f.write_str("-");
         }
+        let mut digits = ArrayVec::<u8, MOST_DIGITS>::new();
         for byte in self.0 {
-            write!(f, "{byte:02X}")?;
+            let pair = [
+                DIGITS[usize::from(byte / 16)],
+                DIGITS[usize::from(byte % 16)],
+            ];
+            digits.try_extend_from_slice(&pair).map_err(|_| fmt::Error)?;
         }
-        Ok(())
+        f.write_str(str::from_utf8(digits.as_slice()).map_err(|_| fmt::Error)?)
     }
 }

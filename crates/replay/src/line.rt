@@ -39,7 +39,7 @@ impl Line {
         if Line::LONGEST < line.len() {
             return None;
         }
-        let mut words = Words::of(str::from_utf8(line).ok()?);
+        let mut words = Words::of(line);
         let said = Line::parse(&mut words)?;
         words.is_over().then_some(said)
     }
@@ -47,20 +47,20 @@ impl Line {
     // By its first word. Each form takes the words that it has, so that a word left over makes a bad line.
     fn parse(words: &mut Words) -> Option<Line> {
         Some(match words.word()? {
-            "settings" => Line::Settings(settings(words)?),
-            "server" => Line::Server(ServerLine::parse(words)?),
-            "room" => Line::Room(RoomLine::parse(words)?),
-            "widen" => Line::Widen {
+            b"settings" => Line::Settings(settings(words)?),
+            b"server" => Line::Server(ServerLine::parse(words)?),
+            b"room" => Line::Room(RoomLine::parse(words)?),
+            b"widen" => Line::Widen {
                 last: words.number()?,
                 counter: words.number()?,
             },
-            "left" => Line::Left {
+            b"left" => Line::Left {
                 start: words.number()?,
                 length: words.number()?,
                 reading: words.number()?,
             },
-            "read" => Line::Read(ReadLine::parse(words)?),
-            "write" => Line::Write(WriteLine::parse(words)?),
+            b"read" => Line::Read(ReadLine::parse(words)?),
+            b"write" => Line::Write(WriteLine::parse(words)?),
             _ => return None,
         })
     }

@@ -1,6 +1,7 @@
 // Plays a script of events through one server engine and sixteen room engines, and prints every answer.
 #![tactic(auto)]
 
+mod answers; // what was answered, until it is written out
 mod engines; // the server and the rooms
 mod hex; // bytes as pairs of upper case digits
 mod line; // which line it is
@@ -14,16 +15,12 @@ mod server_line; // the lines of the server
 mod server_reply; // what the server answers
 mod words; // the words and numbers of a line
 
+use answers::Answers;
 use script::Script;
 use std::io;
-use std::io::BufWriter;
-
-// How much is read and written at once.
-const LARGE: usize = 65_536;
 
 fn main(rt: HostRuntime) -> io::Result<()> {
-    let alloc = rt.alloc();
-    let script = Script::new(alloc, LARGE, rt.stdin())?;
-    let answers = BufWriter::with_capacity(alloc, LARGE, rt.stdout())?;
-    play::play(script, answers)
+    let mut script = Script::new(rt.stdin());
+    let mut answers = Answers::new(rt.stdout());
+    play::play(&mut script, &mut answers)
 }

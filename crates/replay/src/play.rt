@@ -1,10 +1,11 @@
 // The script, played line by line.
+use crate::answers::Answers;
 use crate::engines::Engines;
 use crate::line::Line;
 use crate::reply::{Fault, Reply};
 use crate::script::Script;
 use std::io;
-use std::io::{BufWriter, Read, Write};
+use std::io::{Read, Write};
 use timing::lease::Lease;
 use timing::reading::Reading;
 use timing::settings::Settings;
@@ -50,23 +51,20 @@ impl Player {
     }
 }
 
-// What was answered is written out before more input is waited for. Lines are counted so that this ends whatever the input.
+// Lines are counted so that this ends whatever the input.
 pub(crate) fn play<R: Read + Drop, W: Write + Drop>(
-    mut script: Script<R>,
-    mut answers: BufWriter<W>,
+    script: &mut Script<R>,
+    answers: &mut Answers<W>,
 ) -> io::Result<()> {
     let mut player = Player { engines: None };
     for _ in 0..u64::MAX {
-        if !script.has_line() {
-            answers.flush()?;
-        }
-        let Some(line) = script.next_line()? else {
+        let Some(line) = script.next_line(answers)? else {
             break;
         };
         match player.reply(line) {
-            Ok(Some(reply)) => writeln!(answers, "{reply}")?,
+            Ok(Some(reply)) => answers.put(&reply)?,
             Ok(None) => {}
-            Err(fault) => writeln!(answers, "{fault}")?,
+            Err(fault) => answers.put(&fault)?,
         }
     }
     answers.flush()

@@ -38,9 +38,9 @@ impl Error for Fault {}
 impl fmt::Display for Fault {
     fn fmt<W: fmt::Write>(&self, f: &mut fmt::Formatter<W>) -> fmt::Result {
         match self {
-            Fault::BadLine => write!(f, "bad line"),
-            Fault::NoSettings => write!(f, "no settings"),
-            Fault::Refused(refusal) => write!(f, "{refusal}"),
+            Fault::BadLine => f.write_str("bad line"),
+            Fault::NoSettings => f.write_str("no settings"),
+            Fault::Refused(refusal) => refusal.fmt(f),
         }
     }
 }
@@ -48,8 +48,8 @@ impl fmt::Display for Fault {
 impl fmt::Display for Reply {
     fn fmt<W: fmt::Write>(&self, f: &mut fmt::Formatter<W>) -> fmt::Result {
         match self {
-            Reply::Server(reply) => write!(f, "{reply}"),
-            Reply::Room(reply) => write!(f, "{reply}"),
+            Reply::Server(reply) => reply.fmt(f),
+            Reply::Room(reply) => reply.fmt(f),
             Reply::Reading(reading) => write!(f, "reading {reading}"),
             Reply::Ticks(ticks) => write!(f, "ticks {ticks}"),
             Reply::Message(message, next) => {

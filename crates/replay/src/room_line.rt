@@ -55,24 +55,24 @@ impl Turn {
     // After the reading.
     fn parse(words: &mut Words) -> Option<Turn> {
         Some(match words.word()? {
-            "phase" => Turn::Phase,
-            "use" => Turn::Use(words.number()?),
+            b"phase" => Turn::Phase,
+            b"use" => Turn::Use(words.number()?),
             name => Turn::Event(event(name, words)?),
         })
     }
 }
 
 // By its name, with the words after it.
-fn event(name: &str, words: &mut Words) -> Option<Event> {
+fn event(name: &[u8], words: &mut Words) -> Option<Event> {
     Some(match name {
-        "begin" => Event::Begin(words.number()?, Mode(words.number()?)),
-        "edit" => Event::Edit(words.number()?),
-        "end" => Event::End(words.number()?),
-        "write" => Event::WriteOut(words.number()?),
-        "restart" => Event::Restart,
-        "ack" => Event::Ack(words.number()?, words.number()?, ack(words)?),
-        "nack" => Event::Nack(words.number()?, words.number()?, words.number()?),
-        "demand" => Event::Demand(words.number()?, words.number()?, Mode(words.number()?)),
+        b"begin" => Event::Begin(words.number()?, Mode(words.number()?)),
+        b"edit" => Event::Edit(words.number()?),
+        b"end" => Event::End(words.number()?),
+        b"write" => Event::WriteOut(words.number()?),
+        b"restart" => Event::Restart,
+        b"ack" => Event::Ack(words.number()?, words.number()?, ack(words)?),
+        b"nack" => Event::Nack(words.number()?, words.number()?, words.number()?),
+        b"demand" => Event::Demand(words.number()?, words.number()?, Mode(words.number()?)),
         _ => Event::Send(request(name, words)?),
     })
 }
@@ -80,10 +80,10 @@ fn event(name: &str, words: &mut Words) -> Option<Event> {
 // After the message's number.
 fn ack(words: &mut Words) -> Option<Ack> {
     Some(match words.word()? {
-        "done" => Ack::Done,
-        "granted" => Ack::Granted(words.number()?, Mode(words.number()?)),
-        "wait" => Ack::Wait(words.number()?),
-        "inuse" => Ack::InUse(words.number()?),
+        b"done" => Ack::Done,
+        b"granted" => Ack::Granted(words.number()?, Mode(words.number()?)),
+        b"wait" => Ack::Wait(words.number()?),
+        b"inuse" => Ack::InUse(words.number()?),
         _ => return None,
     })
 }

@@ -18,9 +18,9 @@ impl fmt::Display for RoomReply {
         match *self {
             RoomReply::Event(reply, lost, count) => write!(f, "{reply} lost {lost} count {count}"),
             RoomReply::Phase(Some(phase)) => write!(f, "phase {}", phase.number()),
-            RoomReply::Phase(None) => write!(f, "phase out"),
-            RoomReply::Use(true) => write!(f, "use yes"),
-            RoomReply::Use(false) => write!(f, "use no"),
+            RoomReply::Phase(None) => f.write_str("phase out"),
+            RoomReply::Use(true) => f.write_str("use yes"),
+            RoomReply::Use(false) => f.write_str("use no"),
         }
     }
 }
@@ -31,12 +31,12 @@ pub(crate) struct EventReply(pub(crate) Answer);
 impl fmt::Display for EventReply {
     fn fmt<W: fmt::Write>(&self, f: &mut fmt::Formatter<W>) -> fmt::Result {
         match self.0 {
-            Answer::Done => write!(f, "done"),
+            Answer::Done => f.write_str("done"),
             Answer::Sent(number, request) => write!(f, "sent {}", Sent(number, request)),
-            Answer::Advice(Advice::Keep) => write!(f, "advice keep"),
-            Answer::Advice(Advice::WriteOut) => write!(f, "advice write"),
-            Answer::Advice(Advice::Release) => write!(f, "advice release"),
-            Answer::Refused(refusal) => write!(f, "{refusal}"),
+            Answer::Advice(Advice::Keep) => f.write_str("advice keep"),
+            Answer::Advice(Advice::WriteOut) => f.write_str("advice write"),
+            Answer::Advice(Advice::Release) => f.write_str("advice release"),
+            Answer::Refused(refusal) => refusal.fmt(f),
         }
     }
 }

@@ -1,52 +1,88 @@
 // The script, line by line. It may have any length, and so may a line of it, but only the front of a line is kept.
+use crate::answers::Answers;
 use crate::line::Line;
-use std::alloc::Global;
+use arrayvec::ArrayVec;
 use std::io;
-use std::io::{BufRead, BufReader, Read};
+use std::io::{Read, Write};
 
-// What is kept of a line with its end, or of a longer one: enough to see that it is too long.
+// What is kept of a line, or of a longer one: enough to see that it is too long.
 const KEPT: usize = Line::LONGEST + 1;
+
+// How much is read at once, at the most.
+const LARGE: usize = 65_536;
 
 #[derive(Drop)]
 pub(crate) struct Script<R> {
-    from: BufReader<R>,
-    line: Vec<u8>,
+    from: R,
+    // What was read last, and where in it the bytes that are not taken yet begin and end.
+    chunk: [u8; LARGE],
+    at: usize,
+    end: usize,
+    line: ArrayVec<u8, KEPT>,
     // Kept: a flag, since what was read last has to be answered before the end is told.
     over: bool,
 }
 
-impl<R: Read + Drop> Script<R> {
-    // Up to `capacity` bytes are read at once.
-    pub(crate) fn new(alloc: Global, capacity: usize, from: R) -> io::Result<Script<R>> {
-        Ok(Script {
-            from: BufReader::with_capacity(alloc, capacity, from)?,
-            line: Vec::with_capacity(alloc, KEPT)?,
+impl<R: Read> Script<R> {
+    pub(crate) fn new(from: R) -> Script<R> {
+        Script {
+            from,
+            chunk: [0; LARGE],
+            at: 0,
+            end: 0,
+            line: ArrayVec::new(),
             over: false,
-        })
-    }
-
-    // Whether the next line is there already, so that nothing has to be waited for.
-    pub(crate) fn has_line(&self) -> bool {
-        self.from.buffer().contains(&b'\n')
+        }
     }
 
     // The next line, without its end. Where the input ends, so does its last line, with or without a line end.
-    pub(crate) fn next_line(&mut self) -> io::Result<Option<&[u8]>> {
+    // What was answered is written out before more input is waited for. Reads are counted so that this ends whatever the input.
+    pub(crate) fn next_line<W: Write>(
+        &mut self,
+        answers: &mut Answers<W>,
+    ) -> io::Result<Option<&[u8]>> {
         if self.over {
             return Ok(None);
         }
         self.line.clear();
-        self.from
-            .by_ref()
-            .take(KEPT as u64)
-            .read_until(b'\n', &mut self.line)?;
-        if self.line.last() == Some(&b'\n') {
-            self.line.pop();
-        } else if self.line.len() < KEPT {
-            self.over = true;
-        } else {
-            self.from.skip_until(b'\n')?;
+        for _ in 0..u64::MAX {
+            if self.take_line() {
+                break;
+            }
+            answers.flush()?;
+            if !self.refill()? {
+                self.over = true;
+                break;
+            }
         }
         Ok(Some(self.line.as_slice()))
+    }
+
+    // Goes on with the line, up to its end or to the end of what was read: whether it is whole.
+    fn take_line(&mut self) -> bool {
+        let at = self.at;
+        let end = self.end;
+        let rest = self.chunk.get(at..end).unwrap_or_default();
+        let (part, whole) = match rest.iter().position(|byte| *byte == b'\n') {
+            Some(length) => (&rest[..length], true),
+            None => (rest, false),
+        };
+        let length = part.len();
+        let kept = length.min(self.line.remaining_capacity());
+        let _fits = self.line.try_extend_from_slice(&part[..kept]);
+        self.at = if whole {
+            at.saturating_add(length).saturating_add(1)
+        } else {
+            end
+        };
+        whole
+    }
+
+    // Whether there was more to read.
+    fn refill(&mut self) -> io::Result<bool> {
+        let end = self.from.read(&mut self.chunk)?;
+        self.at = 0;
+        self.end = end;
+        Ok(end != 0)
     }
 }

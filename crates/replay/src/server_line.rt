@@ -15,7 +15,7 @@ impl ServerLine {
     pub(crate) fn parse(words: &mut Words) -> Option<ServerLine> {
         let reading = words.number()?;
         let event = match words.word()? {
-            "tick" => Event::Tick,
+            b"tick" => Event::Tick,
             name => Event::Message(words.number()?, words.number()?, request(name, words)?),
         };
         Some(ServerLine { reading, event })
@@ -23,13 +23,13 @@ impl ServerLine {
 }
 
 // What a message asks, by its name, with the profile and the mode after it.
-pub(crate) fn request(name: &str, words: &mut Words) -> Option<Request> {
+pub(crate) fn request(name: &[u8], words: &mut Words) -> Option<Request> {
     Some(match name {
-        "hello" => Request::Hello,
-        "keepalive" => Request::KeepAlive,
-        "ask" => Request::Ask(words.number()?, Mode(words.number()?)),
-        "release" => Request::Release(words.number()?),
-        "keep" => Request::Keep(words.number()?),
+        b"hello" => Request::Hello,
+        b"keepalive" => Request::KeepAlive,
+        b"ask" => Request::Ask(words.number()?, Mode(words.number()?)),
+        b"release" => Request::Release(words.number()?),
+        b"keep" => Request::Keep(words.number()?),
         _ => return None,
     })
 }
