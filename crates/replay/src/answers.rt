@@ -6,7 +6,7 @@ use std::{fmt, io};
 // How much is written at once, at the most.
 const LARGE: usize = 65_536;
 
-// No answer is longer, its line end included: a `write` line has the most, 64 bytes as pairs of digits.
+// No answer is longer, its line end included. The longest is that of a refused `write` line: 64 bytes as pairs of digits.
 const LONGEST: usize = 256;
 
 #[derive(Drop)]
@@ -15,6 +15,8 @@ pub(crate) struct Answers<W> {
     waiting: Waiting,
 }
 
+// What waits, as a place for text. Kept: an array and no `BufWriter`, whose memory comes from the heap, and which cuts an answer where it
+// is full; a type of its own, so that `writeln!` puts each text there without an adapter between.
 #[derive(Drop)]
 struct Waiting(Cursor<[u8; LARGE]>);
 
@@ -34,6 +36,7 @@ impl<W: Write> Answers<W> {
 
     // An answer, on a line of its own. Answers are written out whole, as soon as the longest might not fit behind them.
     pub(crate) fn put<T: fmt::Display>(&mut self, answer: &T) -> io::Result<()> {
+        // None fails: the longest always fits into what is free.
         if writeln!(self.waiting, "{answer}").is_err() {
             return Err(io::ErrorKind::WriteZero.into());
         }

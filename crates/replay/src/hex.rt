@@ -40,9 +40,9 @@ fn digit(b: u8) -> Option<u8>
 const DIGITS: [u8; 16] = *b"0123456789ABCDEF";
 
 // Two for each byte.
-const MOST_DIGITS: usize = 128;
+const MOST_DIGITS: usize = 2 * MOST;
 
-// At most as many bytes as a line holds.
+// Bytes to be printed as digits, at most as many as a line holds: with more it fails.
 #[derive(Clone, Copy)]
 pub(crate) struct Hex<'a>(pub(crate) &'a [u8]);
 
@@ -52,14 +52,16 @@ impl fmt::Display for Hex<'_> {
         if self.0.is_empty() {
             return f.write_str("-");
         }
-        let mut digits = ArrayVec::<u8, MOST_DIGITS>::new();
-        for byte in self.0 {
-            let pair = [
+        let mut digits = [0; MOST_DIGITS];
+        for (pair, byte) in digits.as_chunks_mut::<2>().0.iter_mut().zip(self.0) {
+            *pair = [
                 DIGITS[usize::from(byte / 16)],
                 DIGITS[usize::from(byte % 16)],
             ];
-            digits.try_extend_from_slice(&pair).map_err(|_| fmt::Error)?;
         }
-        f.write_str(str::from_utf8(digits.as_slice()).map_err(|_| fmt::Error)?)
+        let printed = digits
+            .get(..self.0.len().saturating_mul(2))
+            .ok_or(fmt::Error)?;
+        f.write_str(str::from_utf8(printed).map_err(|_| fmt::Error)?)
     }
 }

@@ -5,7 +5,7 @@ use arrayvec::ArrayVec;
 use std::io;
 use std::io::{Read, Write};
 
-// What is kept of a line, or of a longer one: enough to see that it is too long.
+// How many bytes of a line are kept: one more than a line may have, so that a longer one is seen to be too long.
 const KEPT: usize = Line::LONGEST + 1;
 
 // How much is read at once, at the most.
@@ -15,11 +15,12 @@ const LARGE: usize = 65_536;
 pub(crate) struct Script<R> {
     from: R,
     // What was read last, and where in it the bytes that are not taken yet begin and end.
+    // Kept: two places beside an array, since the memory of a `BufReader` comes from the heap.
     chunk: [u8; LARGE],
     at: usize,
     end: usize,
     line: ArrayVec<u8, KEPT>,
-    // Kept: a flag, since what was read last has to be answered before the end is told.
+    // Whether a read gave nothing. Kept: a flag, since the last line is still told then, and reading again would wait on a terminal.
     over: bool,
 }
 
@@ -62,12 +63,14 @@ impl<R: Read> Script<R> {
     fn take_line(&mut self) -> bool {
         let at = self.at;
         let end = self.end;
+        // Both are always places in the chunk. No contract says so, so the range is asked for, and the sums below saturate.
         let rest = self.chunk.get(at..end).unwrap_or_default();
         let (part, whole) = match rest.iter().position(|byte| *byte == b'\n') {
             Some(length) => (&rest[..length], true),
             None => (rest, false),
         };
         let length = part.len();
+        // What does not fit any more is dropped: such a line is too long already.
         let kept = length.min(self.line.remaining_capacity());
         let _fits = self.line.try_extend_from_slice(&part[..kept]);
         self.at = if whole {

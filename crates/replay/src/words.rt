@@ -1,6 +1,4 @@
 // The words of a line, with one space between each and the next.
-use std::str::FromStr;
-
 // What is left of the line, behind the words that were taken and the space after them. None behind the last word.
 #[derive(Drop)]
 pub(crate) struct Words<'a>(Option<&'a [u8]>);
@@ -11,7 +9,6 @@ impl<'a> Words<'a> {
     }
 
     // The next word. It is empty where two spaces follow one another, and at a space at the line's front or end.
-    // Kept: by hand over bytes, since `split` of a text takes three times as long, and each line has some four words.
     pub(crate) fn word(&mut self) -> Option<&'a [u8]> {
         let rest = self.0?;
         let Some(length) = rest.iter().position(|byte| *byte == b' ') else {
@@ -22,16 +19,26 @@ impl<'a> Words<'a> {
         Some(&rest[..length])
     }
 
-    // The next word as a number in decimal that fits its type. Numbers have no sign here, while `parse` allows a plus.
-    pub(crate) fn number<N: FromStr>(&mut self) -> Option<N>
+    // The next word as a number in decimal that fits its type. It has a digit at least, and no sign.
+    // Kept: by hand over bytes, since `parse` wants a text, and that and `split` make a line of numbers half as long again.
+    pub(crate) fn number<N: TryFrom<u64>>(&mut self) -> Option<N>
     where
-        N::Err: Drop,
+        N::Error: Drop,
     {
         let word = self.word()?;
-        if word.starts_with(b"+") {
+        if word.is_empty() {
             return None;
         }
-        str::from_utf8(word).ok()?.parse().ok()
+        let mut value: u64 = 0;
+        for byte in word {
+            if !byte.is_ascii_digit() {
+                return None;
+            }
+            value = value
+                .checked_mul(10)?
+                .checked_add(u64::from(byte.saturating_sub(b'0')))?;
+        }
+        N::try_from(value).ok()
     }
 
     // Whether the line has no word after those that were taken.
