@@ -1,4 +1,5 @@
 // The words of a line, with one space between each and the next.
+
 // What is left of the line, behind the words that were taken and the space after them. None behind the last word.
 #[derive(Drop)]
 pub(crate) struct Words<'a>(Option<&'a [u8]>);
