@@ -21,7 +21,7 @@ impl<'a> Words<'a> {
     }
 
     // The next word as a number in decimal that fits its type. It has a digit at least, and no sign.
-    // Kept: by hand over bytes, since `parse` wants a text, and that and `split` make a line of numbers half as long again.
+    // Kept: by hand over bytes, since `parse` wants a text, and that and `split` cost a third more on a line of numbers.
     pub(crate) fn number<N: TryFrom<u64>>(&mut self) -> Option<N>
     where
         N::Error: Drop,
